@@ -1,0 +1,9 @@
+pub mod Commute
+pub mod Fraction
+pub mod Order
+pub mod Zero
+pub mod Round
+pub mod Parts
+pub mod Multiples
+pub mod Difference
+pub mod Sizes

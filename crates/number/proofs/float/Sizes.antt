@@ -1,0 +1,58 @@
+-- The size of an f64: it is finite where the value is, it is not below zero, negation does not change it, and two tests against zero tell it. Assumes nothing.
+use mathlib.Core.Path.{_≡_, refl, sym, _∙_}
+use Prim.Native.Nat.{zero as none, suc, _*_}
+use native.Mathlib.Omega.{arith}
+use mathlib.Core.Bool.{true, false, true≢false, false≢true}
+use borrow.Author.Tests.{le-ltb}
+use lib.Dec.{T, eqb·suc-zero}
+use lib.Ieee as Ieee
+use lib.Ieee.{Float, nan, inf, fin, up, down, fits, binary64, isNan}
+use lib.Ieee.Back.{whole-unique}
+use Rattle.number.specs.Float.{finite, size, −_, _<ᶠ_, _=ᶠ_}
+use Rattle.number.specs.Constants.{zero}
+use Rattle.number.proofs.float.Order.{<ᶠ-connected}
+use Rattle.number.proofs.float.Zero.{is-zero}
+
+pub size-finite : (x : Float) → finite (size x) ≡ finite x
+unfolding size
+size-finite nan = refl
+size-finite (inf s) = refl
+size-finite (fin s m e) = refl
+
+pub size-nonnegative : (x : Float) → (size x <ᶠ zero) ≡ false
+unfolding size Ieee.lt Ieee.ofBits
+size-nonnegative nan = refl
+size-nonnegative (inf s) = refl
+size-nonnegative (fin s m e) = le-ltb (m * up e * 1) (0 * down e) (omega arith)
+
+pub size-negated : (x : Float) → size (− x) ≡ size x
+unfolding size Ieee.neg
+size-negated nan = refl
+size-negated (inf s) = refl
+size-negated (fin s m e) = refl
+
+-- ---- the size by two tests: what is below zero, what is zero, and anything else
+
+pub size-below : (x : Float) → (x <ᶠ zero) ≡ true → − x ≡ size x
+unfolding size Ieee.neg Ieee.lt Ieee.ofBits
+size-below nan h = refl
+size-below (inf true) h = refl
+size-below (inf false) h = absurd (false≢true h)
+size-below (fin true m e) h = refl
+size-below (fin false m e) h = absurd (false≢true (sym (le-ltb (m * up e * 1) (0 * down e) (omega arith)) ∙ h))
+
+-- a zero that the format holds is written in one way
+pub size-zero : (x : Float) → T (fits binary64 x) → (x =ᶠ zero) ≡ true → zero ≡ size x
+unfolding size fits Ieee.eq Ieee.ofBits
+size-zero nan f h = absurd (false≢true h)
+size-zero (inf s) f h = absurd (false≢true h)
+size-zero (fin s none e) f h = whole-unique binary64 zero (fin false 0 e) false 0 tt f (refl, refl) (refl, omega arith)
+size-zero (fin s (suc m) e) f h = absurd (false≢true (sym (is-zero s (suc m) e ∙ eqb·suc-zero m) ∙ h))
+
+pub size-otherwise : (x : Float) → (x <ᶠ zero) ≡ false → (x =ᶠ zero) ≡ false → x ≡ size x
+unfolding size Ieee.lt Ieee.ofBits isNan
+size-otherwise nan h k = refl
+size-otherwise (inf true) h k = absurd (true≢false h)
+size-otherwise (inf false) h k = refl
+size-otherwise (fin true m e) h k = absurd (false≢true (<ᶠ-connected (fin true m e) zero refl refl h k))
+size-otherwise (fin false m e) h k = refl

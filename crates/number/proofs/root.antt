@@ -1,0 +1,11 @@
+mod Newton
+mod Extend
+mod Halves
+mod Values
+mod Rounded
+mod Floats
+mod Choice
+mod Descend
+mod Exists
+pub mod Laws
+pub mod Examples

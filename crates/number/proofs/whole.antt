@@ -1,0 +1,3 @@
+pub mod Closest
+pub mod Rounded
+pub mod Laws
