@@ -27,6 +27,33 @@ c4 = ofBits binary64 0x4010000000000000
 abbrev pub c5 : Float
 c5 = ofBits binary64 0x4014000000000000
 
+abbrev pub c6 : Float
+c6 = ofBits binary64 0x4018000000000000
+
+abbrev pub c8 : Float
+c8 = ofBits binary64 0x4020000000000000
+
+abbrev pub c24 : Float
+c24 = ofBits binary64 0x4038000000000000
+
+abbrev pub c30 : Float
+c30 = ofBits binary64 0x403e000000000000
+
+abbrev pub c120 : Float
+c120 = ofBits binary64 0x405e000000000000
+
+abbrev pub c144 : Float
+c144 = ofBits binary64 0x4062000000000000
+
+abbrev pub c720 : Float
+c720 = ofBits binary64 0x4086800000000000
+
+abbrev pub c5040 : Float
+c5040 = ofBits binary64 0x40b3b00000000000
+
+abbrev pub c0·05 : Float
+c0·05 = ofBits binary64 0x3fa999999999999a
+
 -- the longest and the widest substep, in seconds and in radians
 abbrev pub c0·01 : Float
 c0·01 = ofBits binary64 0x3f847ae147ae147b
@@ -75,6 +102,15 @@ pub record Nearest : Type 0 where
   pub c3-is : c3 ≡ nearestTo 3 1
   pub c4-is : c4 ≡ nearestTo 4 1
   pub c5-is : c5 ≡ nearestTo 5 1
+  pub c6-is : c6 ≡ nearestTo 6 1
+  pub c8-is : c8 ≡ nearestTo 8 1
+  pub c24-is : c24 ≡ nearestTo 24 1
+  pub c30-is : c30 ≡ nearestTo 30 1
+  pub c120-is : c120 ≡ nearestTo 120 1
+  pub c144-is : c144 ≡ nearestTo 144 1
+  pub c720-is : c720 ≡ nearestTo 720 1
+  pub c5040-is : c5040 ≡ nearestTo 5040 1
+  pub c0·05-is : c0·05 ≡ nearestTo 5 100
   pub c0·01-is : c0·01 ≡ nearestTo 1 100
   pub c0·02-is : c0·02 ≡ nearestTo 2 100
   pub c1+1e-9-is : c1+1e-9 ≡ nearestTo 1000000001 (10 ^ 9)
@@ -98,6 +134,15 @@ nearest = record {
   c3-is = refl;
   c4-is = refl;
   c5-is = refl;
+  c6-is = refl;
+  c8-is = refl;
+  c24-is = refl;
+  c30-is = refl;
+  c120-is = refl;
+  c144-is = refl;
+  c720-is = refl;
+  c5040-is = refl;
+  c0·05-is = refl;
   c0·01-is = refl;
   c0·02-is = refl;
   c1+1e-9-is = refl;

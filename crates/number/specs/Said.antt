@@ -18,6 +18,21 @@ pub data Said (A : Type 0) : Type 0 where
 abbrev pub refusal : {A : Type 0} → ℕ → Said A
 refusal n = refused n []
 
+-- An answer whose value holds an array stands beside its outcome: it is taken, and this is the value, or it is refused, and this is the value all the same.
+pub record Told (A : Type 0) : Type 0 where
+  pub outcome : Said (Unit {0})
+  pub value : A
+
+abbrev pub accepts : {A : Type 0} → A → Told A
+accepts v = record { outcome = gives tt; value = v }
+
+abbrev pub refuses : {A : Type 0} → ℕ → A → Told A
+refuses n v = record { outcome = refusal n; value = v }
+
+-- a refusal that carries values
+abbrev pub refusesWith : {A : Type 0} → ℕ → List Float → A → Told A
+refusesWith n values v = record { outcome = refused n values; value = v }
+
 -- 01, Refusal numbers: 2 NonFinite, 8 AngleRange
 abbrev pub saidRoot : Root → Said Float
 saidRoot (R.Value r) = gives r
