@@ -7,3 +7,4 @@ pub mod Parts
 pub mod Multiples
 pub mod Difference
 pub mod Sizes
+pub mod Monotone

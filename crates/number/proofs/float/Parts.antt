@@ -54,7 +54,7 @@ difference-no-nan a b p q = go (⊖-cross a b p q)
     go (above h r) = ap isNan r ∙ round-no-nan false _ _
     go (under h r) = ap isNan r ∙ round-no-nan true _ _
 
-negated-twice : (a : Float) → − (− a) ≡ a
+pub negated-twice : (a : Float) → − (− a) ≡ a
 unfolding Ieee.neg
 negated-twice nan = refl
 negated-twice (inf s) = ap inf (Bool·not-not s)

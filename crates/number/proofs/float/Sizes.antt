@@ -1,4 +1,5 @@
--- The size of an f64: it is finite where the value is, it is not below zero, negation does not change it, and two tests against zero tell it. Assumes nothing.
+-- The size of an f64: it is finite where the value is, it is not below zero, negation does not change it, two tests against zero tell it, and a bound on it bounds the value
+-- on both sides. Assumes nothing.
 use mathlib.Core.Path.{_≡_, refl, sym, _∙_}
 use Prim.Native.Nat.{zero as none, suc, _*_}
 use native.Mathlib.Omega.{arith}
@@ -8,9 +9,11 @@ use lib.Dec.{T, eqb·suc-zero}
 use lib.Ieee as Ieee
 use lib.Ieee.{Float, nan, inf, fin, up, down, fits, binary64, isNan}
 use lib.Ieee.Back.{whole-unique}
-use Rattle.number.specs.Float.{finite, size, −_, _<ᶠ_, _=ᶠ_}
+use Rattle.number.specs.Float.{finite, size, −_, _<ᶠ_, _≤ᶠ_, _=ᶠ_}
 use Rattle.number.specs.Constants.{zero}
+use Rattle.number.proofs.float.Monotone.{≤ᶠ-of-cross, ≤ᶠ-transitive, ≤ᶠ-negated, between-finite}
 use Rattle.number.proofs.float.Order.{<ᶠ-connected}
+use Rattle.number.proofs.float.Parts.{finite-negated, negated-twice}
 use Rattle.number.proofs.float.Zero.{is-zero}
 
 pub size-finite : (x : Float) → finite (size x) ≡ finite x
@@ -56,3 +59,19 @@ size-otherwise (inf true) h k = absurd (true≢false h)
 size-otherwise (inf false) h k = refl
 size-otherwise (fin true m e) h k = absurd (false≢true (<ᶠ-connected (fin true m e) zero refl refl h k))
 size-otherwise (fin false m e) h k = refl
+
+-- ---- a value whose size is at most b lies from −b to b
+
+pub size-at-most : (x b : Float) → (size x ≤ᶠ b) ≡ true → (x ≤ᶠ b) ≡ true
+unfolding size Ieee.le
+size-at-most nan b h = h
+size-at-most (inf true) b h = ≤ᶠ-transitive (inf true) (inf false) b refl h
+size-at-most (inf false) b h = h
+size-at-most (fin true m e) b h = ≤ᶠ-transitive (fin true m e) (fin false m e) b (≤ᶠ-of-cross (fin true m e) (fin false m e) refl refl (omega arith)) h
+size-at-most (fin false m e) b h = h
+
+pub size-at-least : (x b : Float) → (size x ≤ᶠ b) ≡ true → (− b ≤ᶠ x) ≡ true
+size-at-least x b h = rw negated-twice at (≤ᶠ-negated b (− x) ∙ size-at-most (− x) b (rw size-negated h))
+
+pub size-bounded : (x b : Float) → finite b ≡ true → (size x ≤ᶠ b) ≡ true → finite x ≡ true
+size-bounded x b p h = between-finite (− b) x b (finite-negated b ∙ p) p (size-at-least x b h) (size-at-most x b h)

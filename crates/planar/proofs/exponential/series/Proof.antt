@@ -1,0 +1,11 @@
+use Rattle.planar.specs.Arc.{series}
+use mathlib.Core.Path.{refl}
+use Rattle.planar.proofs.exponential.series.Statement.{statement}
+use Rattle.planar.proofs.exponential.series.Tie as tie
+
+returns : tie.Need-returns
+unfolding series
+returns c = refl
+
+pub series-spec : {M : Type 1} → statement M
+series-spec = tie.close (tie.spec returns)

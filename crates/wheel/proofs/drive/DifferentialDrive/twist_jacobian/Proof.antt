@@ -1,0 +1,41 @@
+use mathlib.Core.Path.{sym}
+use Rattle.wheel.specs.Drive.{jacobianAsked}
+use borrow.Author.Needs.{needs}
+use Rattle.wheel.proofs.drive.DifferentialDrive.twist_jacobian.Statement.{statement}
+use Rattle.wheel.proofs.drive.DifferentialDrive.twist_jacobian.Tie as tie
+
+is-valid-requires : tie.Need-is-valid-requires
+is-valid-requires c κs = search needs
+
+returns : tie.Need-returns
+unfolding jacobianAsked
+returns c = simp (sym (c .before .is-valid .ensures), c .if1 .taken)
+
+columns-requires : tie.Need-columns-requires
+columns-requires c κs = search needs
+
+is-finite-requires : tie.Need-is-finite-requires
+is-finite-requires c κs = search needs
+
+is-finite-requires-2 : tie.Need-is-finite-requires-2
+is-finite-requires-2 c κs = search needs
+
+returns-2 : tie.Need-returns-2
+unfolding jacobianAsked
+returns-2 c = simp (sym (c .before .before .before .before .before .before .before .is-valid .ensures), c .before .before .before .before .before .before .if1 .left, sym (c .before .before .before .before .before .columns .ensures), sym (c .before .before .is-finite .ensures), sym (c .before .is-finite2 .ensures), c .if2 .taken)
+
+returns-3 : tie.Need-returns-3
+unfolding jacobianAsked
+returns-3 c = simp (sym (c .before .before .before .before .before .before .before .is-valid .ensures), c .before .before .before .before .before .before .if1 .left, sym (c .before .before .before .before .before .columns .ensures), sym (c .before .before .is-finite .ensures), sym (c .before .is-finite2 .ensures), c .if2 .left)
+
+pub twist-jacobian-spec : {M : Type 1} → statement M
+twist-jacobian-spec =
+    tie.close
+    (tie.spec
+    is-valid-requires
+    returns
+    columns-requires
+    is-finite-requires
+    is-finite-requires-2
+    returns-2
+    returns-3)

@@ -1,0 +1,22 @@
+-- 01, The wheel step: "A reading holds a time, a valid flag and two tick counts (i64) or two angular velocities."
+use mathlib.Core.Bool.{Bool, true, _&&_}
+use Rattle.number.specs.Float.{finite}
+use Rattle.wheel.specs.declared.reading.Reading.{Reading}
+use Rattle.wheel.specs.declared.reading.Reading.the-variants.{Ticks, AngularVelocity}
+use Rattle.wheel.specs.declared.reading.WheelMeasurement.{WheelMeasurement}
+use lib.Ieee.{Float}
+use lib.IntN.{ℤ}
+
+abbrev pub ticksAt : Float → ℤ → ℤ → WheelMeasurement
+ticksAt time left right = record { timestamp = time; reading = Ticks left right; valid = true }
+
+abbrev pub ratesAt : Float → Float → Float → WheelMeasurement
+ratesAt time left right = record { timestamp = time; reading = AngularVelocity left right; valid = true }
+
+-- "2 for time or rates"
+abbrev pub finiteReading : Reading → Bool
+finiteReading (Ticks left right) = true
+finiteReading (AngularVelocity left right) = finite left && finite right
+
+unfoldable pub finiteMeasurement : WheelMeasurement → Bool
+finiteMeasurement m = finite (m .timestamp) && finiteReading (m .reading)

@@ -1,0 +1,62 @@
+// What the wheel encoders report.
+ghost use mathlib.Core.Path.{_≡_};
+ghost use Rattle.wheel.specs.Readings.{finiteMeasurement, finiteReading, ratesAt, ticksAt};
+
+// Left and right; positive drives the base forward.
+pub enum Reading {
+    // Cumulative encoder counts.
+    Ticks(i64, i64),
+    // Angular velocities in rad/s.
+    AngularVelocity(f64, f64),
+}
+
+// One sample: its time in seconds, what it reads, and whether the driver vouches for it.
+pub struct WheelMeasurement {
+    pub timestamp: f64,
+    pub reading: Reading,
+    pub valid: bool,
+}
+
+impl Reading {
+    fn is_finite(self) -> bool
+        ensures { λ r. ⌜ r ≡ finiteReading self ⌝ }
+    {
+        match self {
+            Reading::Ticks(_, _) => true,
+            Reading::AngularVelocity(left, right) => number::is_finite(left)
+                & number::is_finite(right),
+        }
+    }
+}
+
+impl WheelMeasurement {
+    // A valid sample of cumulative encoder counts.
+    pub fn ticks(timestamp: f64, left: i64, right: i64) -> WheelMeasurement
+        ensures { λ r. ⌜ r ≡ ticksAt timestamp left right ⌝ }
+    {
+        WheelMeasurement {
+            timestamp,
+            reading: Reading::Ticks(left, right),
+            valid: true,
+        }
+    }
+
+    // A valid sample of wheel angular velocities.
+    pub fn angular_velocity(timestamp: f64, left: f64, right: f64) -> WheelMeasurement
+        ensures { λ r. ⌜ r ≡ ratesAt timestamp left right ⌝ }
+    {
+        WheelMeasurement {
+            timestamp,
+            reading: Reading::AngularVelocity(left, right),
+            valid: true,
+        }
+    }
+
+    // The time and, where it reads rates, the rates are finite.
+    pub fn is_finite(self) -> bool
+        ensures { λ r. ⌜ r ≡ finiteMeasurement self ⌝ }
+    {
+        let reading = self.reading;
+        number::is_finite(self.timestamp) & reading.is_finite()
+    }
+}
