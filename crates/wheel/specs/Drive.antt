@@ -84,9 +84,9 @@ ratesAsked d left right dt =
 unfoldable pub meanRates : Float → Float → Float → Float → WheelRates
 meanRates left right left′ right′ = rates (half ⊗ (left ⊕ left′)) (half ⊗ (right ⊕ right′))
 
--- the rates over the time dt from one reading to the next; 5: "ticks after rates, or rates after ticks"
-abbrev pub ratesBetween : DifferentialDrive → Reading → Reading → Float → Said WheelRates
-ratesBetween d (Ticks left right) (Ticks left′ right′) dt = gives (ratesFromTicks d (tickDifference left left′) (tickDifference right right′) dt)
-ratesBetween d (AngularVelocity left right) (AngularVelocity left′ right′) dt = gives (meanRates left right left′ right′)
-ratesBetween d (Ticks left right) (AngularVelocity left′ right′) dt = refusal 5
-ratesBetween d (AngularVelocity left right) (Ticks left′ right′) dt = refusal 5
+-- The rates over the time dt from one reading to the next of its kind. Readings of two kinds are refused before their rates are asked for.
+abbrev pub ratesBetween : DifferentialDrive → Reading → Reading → Float → WheelRates
+ratesBetween d (Ticks left right) (Ticks left′ right′) dt = ratesFromTicks d (tickDifference left left′) (tickDifference right right′) dt
+ratesBetween d (AngularVelocity left right) (AngularVelocity left′ right′) dt = meanRates left right left′ right′
+ratesBetween d (Ticks left right) (AngularVelocity left′ right′) dt = rates +0 +0
+ratesBetween d (AngularVelocity left right) (Ticks left′ right′) dt = rates +0 +0

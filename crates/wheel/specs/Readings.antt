@@ -1,5 +1,5 @@
 -- 01, The wheel step: "A reading holds a time, a valid flag and two tick counts (i64) or two angular velocities."
-use mathlib.Core.Bool.{Bool, true, _&&_}
+use mathlib.Core.Bool.{Bool, true, false, _&&_}
 use Rattle.number.specs.Float.{finite}
 use Rattle.wheel.specs.declared.reading.Reading.{Reading}
 use Rattle.wheel.specs.declared.reading.Reading.the-variants.{Ticks, AngularVelocity}
@@ -20,3 +20,10 @@ finiteReading (AngularVelocity left right) = finite left && finite right
 
 unfoldable pub finiteMeasurement : WheelMeasurement → Bool
 finiteMeasurement m = finite (m .timestamp) && finiteReading (m .reading)
+
+-- 01, Refusal numbers, 5: "ticks after rates, or rates after ticks"
+abbrev pub sameKind : Reading → Reading → Bool
+sameKind (Ticks left right) (Ticks left′ right′) = true
+sameKind (Ticks left right) (AngularVelocity left′ right′) = false
+sameKind (AngularVelocity left right) (Ticks left′ right′) = false
+sameKind (AngularVelocity left right) (AngularVelocity left′ right′) = true

@@ -45,3 +45,7 @@ saidRated (W.Refused r) = saidRefusal r
 
 abbrev pub toldAnswer : Answer → Told WheelPreintegration
 toldAnswer a = record { outcome = saidOutcome (a .outcome); value = a .state }
+
+-- a refusal beside the state that came
+abbrev pub refusedTold : Refusal → WheelPreintegration → Told WheelPreintegration
+refusedTold r s = record { outcome = saidRefusal r; value = s }

@@ -22,7 +22,7 @@ use Rattle.wheel.specs.declared.reading.WheelMeasurement.{WheelMeasureme
 use Rattle.wheel.specs.declared.preintegration.Last.{Last}
 use Rattle.wheel.specs.declared.preintegration.Last.the-variants.{Nothing, At}
 use Rattle.wheel.specs.declared.preintegration.WheelPreintegration.{WheelPreintegration}
-use Rattle.wheel.specs.Readings.{finiteMeasurement}
+use Rattle.wheel.specs.Readings.{finiteMeasurement, sameKind}
 use Rattle.wheel.specs.Drive.{fitDrive, twistOf, ratesBetween}
 use Rattle.wheel.specs.Noise.{fitNoise, rateNoise}
 
@@ -65,10 +65,6 @@ turnedOf s m dt v =
     refuses 2 s when not (finite (v .wz ⊗ h)) else
     resultOf s m dt (intervalMotion (s .drive) (s .noise) v h (halvingCount (ratioOf dt (v .wz))))
 
-abbrev pub byRates : WheelPreintegration → WheelMeasurement → Float → Said WheelRates → Told WheelPreintegration
-byRates s m dt (gives w) = turnedOf s m dt (twistOf (s .drive) w)
-byRates s m dt (refused n values) = refusesWith n values s
-
 -- ---- the step
 
 -- "After that 3, 4, 5, 8, 2 for the result."
@@ -77,7 +73,8 @@ afterReading s last m =
     let dt = m .timestamp ⊖ last .timestamp in
     refusesWith 3 (m .timestamp ∷ last .timestamp ∷ []) s when dt <ᶠ +0 else
     refusesWith 4 (m .timestamp ∷ []) s when dt =ᶠ +0 else
-    byRates s m dt (ratesBetween (s .drive) (last .reading) (m .reading) dt)
+    refuses 5 s when not (sameKind (last .reading) (m .reading)) else
+    turnedOf s m dt (twistOf (s .drive) (ratesBetween (s .drive) (last .reading) (m .reading) dt))
 
 -- "with no earlier reading, it becomes the baseline and nothing else changes"
 abbrev pub after : Last → WheelPreintegration → WheelMeasurement → Told WheelPreintegration

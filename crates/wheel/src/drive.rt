@@ -166,22 +166,28 @@ impl DifferentialDrive {
         }
     }
 
-    // The rates over the dt seconds from one reading to the next: ticks give the mean rates exactly, angular velocities are averaged.
-    pub fn rates_between(self, from: Reading, to: Reading, dt: f64) -> Rated
-        ensures { λ r. ⌜ saidRated r ≡ ratesBetween self from to dt ⌝ }
+    // The rates over the dt seconds from one reading to the next of its kind: ticks give the mean rates exactly, angular velocities are averaged.
+    pub fn rates_between(self, from: Reading, to: Reading, dt: f64) -> WheelRates
+        ensures { λ r. ⌜ r ≡ ratesBetween self from to dt ⌝ }
     {
         match from {
             Reading::Ticks(left, right) => match to {
                 Reading::Ticks(l, r) => {
                     let dl = number::tick_difference(left, l);
                     let dr = number::tick_difference(right, r);
-                    Rated::Rates(self.rates_from_ticks(dl, dr, dt))
+                    self.rates_from_ticks(dl, dr, dt)
                 }
-                Reading::AngularVelocity(_, _) => Rated::Refused(Refusal::MixedReadings),
+                Reading::AngularVelocity(_, _) => WheelRates {
+                    left: 0.0,
+                    right: 0.0,
+                },
             },
             Reading::AngularVelocity(left, right) => match to {
-                Reading::Ticks(_, _) => Rated::Refused(Refusal::MixedReadings),
-                Reading::AngularVelocity(l, r) => Rated::Rates(mean_rates(left, right, l, r)),
+                Reading::Ticks(_, _) => WheelRates {
+                    left: 0.0,
+                    right: 0.0,
+                },
+                Reading::AngularVelocity(l, r) => mean_rates(left, right, l, r),
             },
         }
     }

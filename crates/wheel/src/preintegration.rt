@@ -2,11 +2,10 @@
 // of constant twist. To go on from one stretch to the next, read the motion and restart: the next interval starts at the last reading.
 ghost use mathlib.Core.Path.{_≡_};
 ghost use Rattle.wheel.specs.Integrator.{makeOf, restarted};
-ghost use Rattle.wheel.specs.Refusals.{saidOutcome, toldAnswer};
+ghost use Rattle.wheel.specs.Refusals.{refusedTold, saidOutcome, toldAnswer};
 ghost use Rattle.wheel.specs.Step.{afterReading, doubled as doubledOf, intervalMotion, judgedOf, ratioOf, resultOf, stepOf, turnedOf};
 use crate::drive::BodyTwist;
 use crate::drive::DifferentialDrive;
-use crate::drive::Rated;
 use crate::noise::WheelNoise;
 use crate::reading::WheelMeasurement;
 use crate::refusal::Outcome;
@@ -103,9 +102,11 @@ impl WheelPreintegration {
     pub fn restart(self) -> WheelPreintegration
         ensures { λ r. ⌜ r ≡ restarted self ⌝ }
     {
+        let kept = self.last;
         WheelPreintegration {
             motion: PlanarMotion::IDENTITY,
             dt: 0.0,
+            last: kept,
             ..self
         }
     }
@@ -161,27 +162,28 @@ impl WheelPreintegration {
     {
         let dt = m.timestamp - last.timestamp;
         if dt < 0.0 {
-            let refusal = Refusal::OutOfOrder(m.timestamp, last.timestamp);
-            return Answer {
-                outcome: Outcome::Refused(refusal),
-                state: self,
-            };
+            return self.refused(Refusal::OutOfOrder(m.timestamp, last.timestamp));
         }
         if dt == 0.0 {
-            return Answer {
-                outcome: Outcome::Refused(Refusal::Duplicate(m.timestamp)),
-                state: self,
-            };
+            return self.refused(Refusal::Duplicate(m.timestamp));
         }
-        let drive = self.drive;
         let from = last.reading;
         let to = m.reading;
-        match drive.rates_between(from, to, dt) {
-            Rated::Rates(w) => self.turned(m, dt, drive.twist_of(w)),
-            Rated::Refused(refusal) => Answer {
-                outcome: Outcome::Refused(refusal),
-                state: self,
-            },
+        if !from.is_like(to) {
+            return self.refused(Refusal::MixedReadings);
+        }
+        let drive = self.drive;
+        self.turned(m, dt, drive.twist_of(drive.rates_between(from, to, dt)))
+    }
+
+    // The state exactly as it came, beside why.
+    fn refused(self, refusal: Refusal) -> Answer
+        ensures { λ r. ⌜ toldAnswer r ≡ refusedTold refusal self ⌝ }
+    {
+        let state = self;
+        Answer {
+            outcome: Outcome::Refused(refusal),
+            state,
         }
     }
 
@@ -194,16 +196,10 @@ impl WheelPreintegration {
         let motion = self.motion;
         let delta = motion.delta;
         if number::is_above_four(angle) | number::is_above_four(delta[2]) {
-            return Answer {
-                outcome: Outcome::Refused(Refusal::AngleRange),
-                state: self,
-            };
+            return self.refused(Refusal::AngleRange);
         }
         if !number::is_finite(angle) {
-            return Answer {
-                outcome: Outcome::Refused(Refusal::NonFinite),
-                state: self,
-            };
+            return self.refused(Refusal::NonFinite);
         }
         let drive = self.drive;
         let noise = self.noise;
@@ -217,10 +213,7 @@ impl WheelPreintegration {
         let motion = stored.composed(step);
         let total = self.dt + dt;
         if !(motion.is_finite() & number::is_finite(total)) {
-            return Answer {
-                outcome: Outcome::Refused(Refusal::NonFinite),
-                state: self,
-            };
+            return self.refused(Refusal::NonFinite);
         }
         Answer {
             outcome: Outcome::Accepted,

@@ -1,6 +1,6 @@
 // What the wheel encoders report.
 ghost use mathlib.Core.Path.{_≡_};
-ghost use Rattle.wheel.specs.Readings.{finiteMeasurement, finiteReading, ratesAt, ticksAt};
+ghost use Rattle.wheel.specs.Readings.{finiteMeasurement, finiteReading, ratesAt, sameKind, ticksAt};
 
 // Left and right; positive drives the base forward.
 pub enum Reading {
@@ -25,6 +25,24 @@ impl Reading {
             Reading::Ticks(_, _) => true,
             Reading::AngularVelocity(left, right) => number::is_finite(left)
                 & number::is_finite(right),
+        }
+    }
+}
+
+impl Reading {
+    // Ticks both, or rates both.
+    pub fn is_like(self, other: Reading) -> bool
+        ensures { λ r. ⌜ r ≡ sameKind self other ⌝ }
+    {
+        match self {
+            Reading::Ticks(_, _) => match other {
+                Reading::Ticks(_, _) => true,
+                Reading::AngularVelocity(_, _) => false,
+            },
+            Reading::AngularVelocity(_, _) => match other {
+                Reading::Ticks(_, _) => false,
+                Reading::AngularVelocity(_, _) => true,
+            },
         }
     }
 }

@@ -15,7 +15,7 @@ use Rattle.wheel.specs.Refusals.{saidRefusal}
 use Rattle.wheel.specs.Readings.{finiteMeasurement}
 use Rattle.wheel.specs.Drive.{fitDrive}
 use Rattle.wheel.specs.Noise.{fitNoise}
-use Rattle.wheel.specs.Step.{after, byRates, judgedOf, stepOf}
+use Rattle.wheel.specs.Step.{after, judgedOf, stepOf}
 
 -- the questions by their answers
 abbrev asked : Bool → Bool → Bool → Bool → Said (Unit {0})
@@ -57,14 +57,3 @@ module _ (s : WheelPreintegration) (m : WheelMeasurement) where
   refused-step R.InvalidNoise e = refused-with 6 [] e
   refused-step R.InvalidKinematics e = refused-with 7 [] e
   refused-step R.AngleRange e = refused-with 8 [] e
-
--- rates that are refused refuse the reading
-pub refused-rates : (s : WheelPreintegration) (m : WheelMeasurement) (dt : Float) (r : Refusal) → _≡_ {A = Told WheelPreintegration} (record { outcome = saidRefusal r; value = s }) (byRates s m dt (saidRefusal r))
-refused-rates s m dt R.Invalid = refl
-refused-rates s m dt R.NonFinite = refl
-refused-rates s m dt (R.OutOfOrder time last) = refl
-refused-rates s m dt (R.Duplicate time) = refl
-refused-rates s m dt R.MixedReadings = refl
-refused-rates s m dt R.InvalidNoise = refl
-refused-rates s m dt R.InvalidKinematics = refl
-refused-rates s m dt R.AngleRange = refl

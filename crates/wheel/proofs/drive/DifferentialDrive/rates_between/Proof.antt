@@ -1,6 +1,5 @@
 use mir.ValLaws.{toZ-ofZ}
-use Rattle.number.specs.Said.{gives}
-use mathlib.Core.Path.{_≡_, ap, _∙_}
+use mathlib.Core.Path.{_≡_, _∙_}
 use mir.Syntax.{w64}
 use mir.Val.{toZ, ofZ}
 use Rattle.number.specs.Ticks.{tickDifference}
@@ -56,16 +55,16 @@ returns c =
     let right : toZ w64 (ofZ w64 (dr .result)) ≡ tickDifference (from .0 .1 .0) (to .0 .1 .0) =
     toZ-ofZ w64 (dr .result) (record { sfits = dr .ok }) ∙ dr .ensures ∙ (λ i. tickDifference (fr i) (tr i))
     in
-    simp (from .1, to .1) (ap gives (c .rates-from-ticks .ensures ∙ (λ i. ratesFromTicks (start .before .before .args .self) (left i) (right i) (start .before .before .args .dt))))
+    simp (from .1, to .1) (c .rates-from-ticks .ensures ∙ (λ i. ratesFromTicks (start .before .before .args .self) (left i) (right i) (start .before .before .args .dt)))
 
 returns-2 : tie.Need-returns-2
-returns-2 c = search needs
+returns-2 c = simp (c .before .before .before .from .given .1, c .enum-told .given .1)
 
 returns-3 : tie.Need-returns-3
-returns-3 c = search needs
+returns-3 c = simp (c .before .before .before .from2 .given .1, c .enum-told2 .given .1)
 
 returns-4 : tie.Need-returns-4
-returns-4 c = simp (c .before .before .before .before .before .from2 .given .1, c .before .before .to2 .given .1) (ap gives (c .mean-rates .ensures))
+returns-4 c = simp (c .before .before .before .before .before .from2 .given .1, c .before .before .to2 .given .1) (c .mean-rates .ensures)
 
 pub rates-between-spec : {M : Type 1} → statement M
 rates-between-spec =

@@ -1,11 +1,10 @@
 use mathlib.Core.Path.{_≡_, sym, ap, _∙_}
 use mathlib.Core.Bool.{not, _||_}
-use Rattle.wheel.specs.Step.{resultOf}
-use Rattle.wheel.proofs.preintegration.Turned.{too-wide, no-angle, turns}
 use Rattle.number.specs.Float.{_⊘_}
 use Rattle.number.specs.Halving.{halvingCount, halvingsOf}
 use Rattle.number.specs.declared.halving.Halved.{Halved}
-use Rattle.wheel.specs.Step.{ratioOf, substepOf}
+use Rattle.wheel.specs.Step.{ratioOf, resultOf, substepOf}
+use Rattle.wheel.proofs.preintegration.Turned.{too-wide, no-angle, turns}
 use borrow.Author.Needs.{needs}
 use Rattle.wheel.proofs.preintegration.WheelPreintegration.turned.Statement.{statement}
 use Rattle.wheel.proofs.preintegration.WheelPreintegration.turned.Tie as tie
@@ -36,20 +35,28 @@ array-read-is-above-four c = search needs
 is-above-four-requires-2 : tie.Need-is-above-four-requires-2
 is-above-four-requires-2 c κs = search needs
 
+refused-requires : tie.Need-refused-requires
+refused-requires c κs = search needs
+
 returns : tie.Need-returns
 returns c =
-    let d = c .before .before .before .before .before .before .before in
+    let d = c .before .before .before .before .before .before .before .before in
     let a = d .before .before .args in
-    sym (too-wide (a .self) (a .m) (a .dt) (a .v) (a .dt ⊘ d .halvings .result .parts) (d .halvings .result .count) (substep d) (count d) ((λ i. sym (c .before .before .is-above-four .ensures) i || sym (c .before .is-above-four2 .ensures) i) ∙ c .if1 .taken))
+    c .refused .ensures
+    ∙ sym (too-wide (a .self) (a .m) (a .dt) (a .v) (a .dt ⊘ d .halvings .result .parts) (d .halvings .result .count) (substep d) (count d) ((λ i. sym (c .before .before .before .is-above-four .ensures) i || sym (c .before .before .is-above-four2 .ensures) i) ∙ c .before .if1 .taken))
 
 is-finite-requires : tie.Need-is-finite-requires
 is-finite-requires c κs = search needs
 
+refused-requires-2 : tie.Need-refused-requires-2
+refused-requires-2 c κs = search needs
+
 returns-2 : tie.Need-returns-2
 returns-2 c =
-    let d = c .before .before .before .before .before .before .before .before .before in
+    let d = c .before .before .before .before .before .before .before .before .before .before in
     let a = d .before .before .args in
-    sym (no-angle (a .self) (a .m) (a .dt) (a .v) (a .dt ⊘ d .halvings .result .parts) (d .halvings .result .count) (substep d) (count d) ((λ i. sym (c .before .before .before .before .is-above-four .ensures) i || sym (c .before .before .before .is-above-four2 .ensures) i) ∙ c .before .before .if1 .left) ((λ i. not (sym (c .before .is-finite .ensures) i)) ∙ c .if2 .taken))
+    c .refused2 .ensures
+    ∙ sym (no-angle (a .self) (a .m) (a .dt) (a .v) (a .dt ⊘ d .halvings .result .parts) (d .halvings .result .count) (substep d) (count d) ((λ i. sym (c .before .before .before .before .before .is-above-four .ensures) i || sym (c .before .before .before .before .is-above-four2 .ensures) i) ∙ c .before .before .before .if1 .left) ((λ i. not (sym (c .before .before .is-finite .ensures) i)) ∙ c .before .if2 .taken))
 
 interval-motion-requires : tie.Need-interval-motion-requires
 interval-motion-requires c κs = search needs
@@ -74,8 +81,10 @@ turned-spec =
     is-above-four-requires
     array-read-is-above-four
     is-above-four-requires-2
+    refused-requires
     returns
     is-finite-requires
+    refused-requires-2
     returns-2
     interval-motion-requires
     moved-requires
