@@ -33,6 +33,9 @@ c6 = ofBits binary64 0x4018000000000000
 abbrev pub c8 : Float
 c8 = ofBits binary64 0x4020000000000000
 
+abbrev pub c12 : Float
+c12 = ofBits binary64 0x4028000000000000
+
 abbrev pub c24 : Float
 c24 = ofBits binary64 0x4038000000000000
 
@@ -50,6 +53,12 @@ c720 = ofBits binary64 0x4086800000000000
 
 abbrev pub c5040 : Float
 c5040 = ofBits binary64 0x40b3b00000000000
+
+abbrev pub c0·002 : Float
+c0·002 = ofBits binary64 0x3f60624dd2f1a9fc
+
+abbrev pub c21·03 : Float
+c21·03 = ofBits binary64 0x403507ae147ae148
 
 abbrev pub c0·05 : Float
 c0·05 = ofBits binary64 0x3fa999999999999a
@@ -104,12 +113,15 @@ pub record Nearest : Type 0 where
   pub c5-is : c5 ≡ nearestTo 5 1
   pub c6-is : c6 ≡ nearestTo 6 1
   pub c8-is : c8 ≡ nearestTo 8 1
+  pub c12-is : c12 ≡ nearestTo 12 1
   pub c24-is : c24 ≡ nearestTo 24 1
   pub c30-is : c30 ≡ nearestTo 30 1
   pub c120-is : c120 ≡ nearestTo 120 1
   pub c144-is : c144 ≡ nearestTo 144 1
   pub c720-is : c720 ≡ nearestTo 720 1
   pub c5040-is : c5040 ≡ nearestTo 5040 1
+  pub c0·002-is : c0·002 ≡ nearestTo 2 1000
+  pub c21·03-is : c21·03 ≡ nearestTo 2103 100
   pub c0·05-is : c0·05 ≡ nearestTo 5 100
   pub c0·01-is : c0·01 ≡ nearestTo 1 100
   pub c0·02-is : c0·02 ≡ nearestTo 2 100
@@ -136,12 +148,15 @@ nearest = record {
   c5-is = refl;
   c6-is = refl;
   c8-is = refl;
+  c12-is = refl;
   c24-is = refl;
   c30-is = refl;
   c120-is = refl;
   c144-is = refl;
   c720-is = refl;
   c5040-is = refl;
+  c0·002-is = refl;
+  c21·03-is = refl;
   c0·05-is = refl;
   c0·01-is = refl;
   c0·02-is = refl;

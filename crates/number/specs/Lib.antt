@@ -3,6 +3,7 @@ pub mod Float
 pub mod Said
 pub mod Constants
 pub mod Fit
+pub mod Tabulated
 pub mod Whole
 pub mod Ticks
 pub mod Root

@@ -3,7 +3,7 @@ ghost use mathlib.Core.Path.{_≡_};
 ghost use Rattle.number.specs.Ticks.{residue, signed, tickDifference};
 
 // The two's complement bits of a.
-fn bits_of(a: i64) -> u64
+pub fn bits_of(a: i64) -> u64
     ensures { λ r. ⌜ r ≡ residue a ⌝ }
 {
     if a >= 0 {

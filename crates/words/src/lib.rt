@@ -7,7 +7,7 @@ ghost use lib.Ieee.{ofBits as ofPattern, toBits as toPattern};
 ghost use Rattle.words.specs.Words.{floatAt, signedAt, wordAt};
 
 // The byte at index i, or 0 past the end.
-fn byte(s: &[u8], i: usize) -> u64
+pub fn byte(s: &[u8], i: usize) -> u64
     ensures { λ r. ⌜ r ≡ getD (now (s .entry)) i 0 ⌝ }
     ensures { λ r. ⌜ r < 256 ⌝ }
 {
