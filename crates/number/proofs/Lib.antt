@@ -2,3 +2,4 @@
 pub mod All
 pub mod Below
 pub mod Cases
+pub mod Tabulated

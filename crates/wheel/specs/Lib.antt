@@ -5,3 +5,6 @@ pub mod Drive
 pub mod Noise
 pub mod Integrator
 pub mod Step
+pub mod Run
+pub mod Theorem
+pub mod Events

@@ -4,6 +4,7 @@ pub mod noise;
 pub mod preintegration;
 pub mod reading;
 pub mod refusal;
+pub mod run;
 
 pub use drive::BodyTwist;
 pub use drive::DifferentialDrive;
@@ -20,3 +21,4 @@ pub use reading::Reading;
 pub use reading::WheelMeasurement;
 pub use refusal::Outcome;
 pub use refusal::Refusal;
+pub use run::Event;
