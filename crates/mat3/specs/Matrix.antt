@@ -48,6 +48,35 @@ difference a b = matrix (λ i j. entry a i j ⊖ entry b i j)
 abbrev pub scaled : List Float → Float → List Float
 scaled a s = matrix (λ i j. entry a i j ⊗ s)
 
+-- ---- vectors
+
+abbrev pub vectorSum : List Float → List Float → List Float
+vectorSum a b = vector (λ i. coordinate a i ⊕ coordinate b i)
+
+abbrev pub vectorDifference : List Float → List Float → List Float
+vectorDifference a b = vector (λ i. coordinate a i ⊖ coordinate b i)
+
+abbrev pub vectorScaled : List Float → Float → List Float
+vectorScaled v s = vector (λ i. coordinate v i ⊗ s)
+
+abbrev pub dot : List Float → List Float → Float
+dot a b = coordinate a 0 ⊗ coordinate b 0 ⊕ coordinate a 1 ⊗ coordinate b 1 ⊕ coordinate a 2 ⊗ coordinate b 2
+
+-- coordinates are counted round, after 2 comes 0
+abbrev pub cross : List Float → List Float → List Float
+cross a b = vector (λ i. coordinate a ((i + 1) % 3) ⊗ coordinate b ((i + 2) % 3) ⊖ coordinate a ((i + 2) % 3) ⊗ coordinate b ((i + 1) % 3))
+
+-- column j as three numbers
+abbrev pub column : List Float → ℕ → List Float
+column m j = vector (λ i. entry m i j)
+
+-- three columns side by side
+abbrev pub columns : List Float → List Float → List Float → List Float
+columns a b c = matrix (λ i j. coordinate (getD (a ∷ b ∷ c ∷ []) j []) i)
+
+abbrev pub zeroVector : List Float
+zeroVector = +0 ∷ +0 ∷ +0 ∷ []
+
 -- ---- matrices that are named
 
 abbrev pub zeros : List Float

@@ -1,5 +1,15 @@
 // 3×3 matrices of f64: nine numbers by value, column by column, as the Rust's `Mat3F64` stores them. In the names of locals `a12` is what
 // stands in row 1 and column 2. Each element is read once, into a local: that keeps the proofs short.
+pub mod vector;
+
+pub use vector::cross;
+pub use vector::dot;
+pub use vector::first_column;
+pub use vector::from_columns;
+pub use vector::second_column;
+pub use vector::vector_difference;
+pub use vector::vector_scaled;
+pub use vector::vector_sum;
 ghost use mathlib.Core.Path.{_≡_};
 ghost use Rattle.mat3.specs.Matrix.{finiteMatrix, finiteVector, threeFinite};
 ghost use Rattle.mat3.specs.Matrix.{adjugate as adjugateOf, determinant as determinantOf, diagonal as diagonalOf, difference as differenceOf, hat as hatOf, identity as identityOf, inverse as inverseOf, product as productOf, scaled as scaledOf, sum as sumOf, transform as transformOf, transpose as transposeOf, yaw as yawOf, zeros as zerosOf};

@@ -2,4 +2,5 @@
 pub mod All
 pub mod Below
 pub mod Cases
+pub mod Filled
 pub mod Tabulated

@@ -57,6 +57,9 @@ c5040 = ofBits binary64 0x40b3b00000000000
 abbrev pub c0·002 : Float
 c0·002 = ofBits binary64 0x3f60624dd2f1a9fc
 
+abbrev pub c9·81 : Float
+c9·81 = ofBits binary64 0x40239eb851eb851f
+
 abbrev pub c21·03 : Float
 c21·03 = ofBits binary64 0x403507ae147ae148
 
@@ -121,6 +124,7 @@ pub record Nearest : Type 0 where
   pub c720-is : c720 ≡ nearestTo 720 1
   pub c5040-is : c5040 ≡ nearestTo 5040 1
   pub c0·002-is : c0·002 ≡ nearestTo 2 1000
+  pub c9·81-is : c9·81 ≡ nearestTo 981 100
   pub c21·03-is : c21·03 ≡ nearestTo 2103 100
   pub c0·05-is : c0·05 ≡ nearestTo 5 100
   pub c0·01-is : c0·01 ≡ nearestTo 1 100
@@ -156,6 +160,7 @@ nearest = record {
   c720-is = refl;
   c5040-is = refl;
   c0·002-is = refl;
+  c9·81-is = refl;
   c21·03-is = refl;
   c0·05-is = refl;
   c0·01-is = refl;

@@ -2,7 +2,7 @@
 -- and it is proved that what is said determines the case (proofs/Cases.antt).
 use Prim.Native.Nat.{ℕ}
 use mathlib.Core.List.{List, []}
-use lib.Ieee.{Float}
+use lib.Ieee.{Float, nan}
 use Rattle.number.specs.declared.root.Root.{Root}
 use Rattle.number.specs.declared.root.Root.the-variants as R
 use Rattle.number.specs.declared.turn.SinCos.{SinCos}
@@ -37,6 +37,11 @@ refusesWith n values v = record { outcome = refused n values; value = v }
 abbrev pub saidRoot : Root → Said Float
 saidRoot (R.Value r) = gives r
 saidRoot R.NonFinite = refusal 2
+
+-- the number that is given, or a NaN where there is none
+abbrev pub orNan : Said Float → Float
+orNan (gives r) = r
+orNan (refused n values) = nan
 
 abbrev pub saidTurned : Turned → Said SinCos
 saidTurned (T.Value v) = gives v

@@ -15,6 +15,7 @@ pub use float::size;
 pub use halving::Halved;
 pub use halving::halvings;
 pub use root::Root;
+pub use root::root_or_nan;
 pub use root::sqrt;
 pub use tick::tick_difference;
 pub use turn::SinCos;

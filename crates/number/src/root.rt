@@ -5,7 +5,7 @@ ghost use Prim.Native.Nat.{_+_, _*_, _^_, _≤_, _<_};
 ghost use lib.Dec.{T};
 ghost use lib.Ieee.Positive.{positive};
 ghost use Rattle.number.specs.Root.{IsRoot, sqrtOf};
-ghost use Rattle.number.specs.Said.{saidRoot};
+ghost use Rattle.number.specs.Said.{orNan, saidRoot};
 ghost use Rattle.number.specs.RootSteps.{RootBits, Floor, Scale};
 
 // What `sqrt` answers: a root, or NonFinite for a NaN and for a number below zero, which have none.
@@ -103,4 +103,14 @@ pub fn sqrt(x: f64) -> Root
         return Root::NonFinite;
     }
     Root::Value(positive_root(x))
+}
+
+// The root of x, or a NaN where it has none.
+pub fn root_or_nan(x: f64) -> f64
+    ensures { λ r. ⌜ r ≡ orNan (sqrtOf x) ⌝ }
+{
+    match sqrt(x) {
+        Root::Value(r) => r,
+        Root::NonFinite => 0.0 / 0.0,
+    }
 }

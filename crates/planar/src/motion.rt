@@ -103,7 +103,7 @@ fn wrapped(s: f64) -> f64
     s + TAU
 }
 
-fn turn_matrix(heading: f64) -> [f64; 9]
+pub fn turn_matrix(heading: f64) -> [f64; 9]
     ensures { λ r. ⌜ r ≡ turnMatrix heading ⌝ }
 {
     let v = number::evaluate(heading);

@@ -1,0 +1,77 @@
+-- `row_times_column` meets its contract. The invariant: `sum` is the sum of the first k products. The measure is what is left of the row. Assumes nothing.
+use mathlib.Core.Path.{refl}
+use Prim.Native.Nat.{_+_, _*_, _-_, _<_}
+use native.Mathlib.Omega.{arith}
+use Rattle.mat9.specs.Matrix.{rowTimesColumn}
+use Rattle.mat9.proofs.Loops.{term, Summed, summed-none, summed-more, summed-done, within}
+use Rattle.mat9.proofs.row_times_column.Statement.{statement}
+use Rattle.mat9.proofs.row_times_column.Tie as tie
+
+abbrev Inv-loop : tie.InvT-loop
+Inv-loop a b rows inner r c sum₀ k₀ sum k = Summed inner (term rows inner a b r c) k sum
+
+abbrev μ-loop : tie.MeasureT-loop
+μ-loop a b rows inner r c sum₀ k₀ sum k = inner - k
+
+loop-holds : tie.Need-loop-holds Inv-loop μ-loop
+loop-holds c = summed-none
+
+in-a : (c : tie.In-loop Inv-loop μ-loop) → let s = c .before .before .args in s .r + c .before .loop .k * s .rows < s .rows * s .inner
+in-a c = within (c .before .before .pre .0) (c .loop-test .taken)
+
+mul-sum : tie.Need-mul-sum Inv-loop μ-loop
+mul-sum c = omega (arith, in-a c)
+
+add-sum : tie.Need-add-sum Inv-loop μ-loop
+add-sum c = omega (arith, in-a c)
+
+mul-sum-2 : tie.Need-mul-sum-2 Inv-loop μ-loop
+mul-sum-2 c = omega (arith, in-a c)
+
+shared-slice-read-sum : tie.Need-shared-slice-read-sum Inv-loop μ-loop
+shared-slice-read-sum c = omega (arith, in-a (c .before))
+
+mul-sum-3 : tie.Need-mul-sum-3 Inv-loop μ-loop
+mul-sum-3 c = omega arith
+
+add-sum-2 : tie.Need-add-sum-2 Inv-loop μ-loop
+add-sum-2 c = omega arith
+
+mul-sum-4 : tie.Need-mul-sum-4 Inv-loop μ-loop
+mul-sum-4 c = omega arith
+
+shared-slice-read-sum-2 : tie.Need-shared-slice-read-sum-2 Inv-loop μ-loop
+shared-slice-read-sum-2 c = omega arith
+
+add-k : tie.Need-add-k Inv-loop μ-loop
+add-k c = omega arith
+
+loop-less : tie.Need-loop-less Inv-loop μ-loop
+loop-less c = omega arith
+
+loop-again : tie.Need-loop-again Inv-loop μ-loop
+loop-again c = summed-more (c .before .before .before .loop .inv) (omega arith) refl
+
+returns : tie.Need-returns Inv-loop μ-loop
+unfolding rowTimesColumn
+returns c = summed-done (c .before .loop .inv) (omega arith)
+
+pub row-times-column-spec : {M : Type 1} → statement M
+row-times-column-spec =
+    tie.close
+    (tie.spec
+    Inv-loop
+    μ-loop
+    loop-holds
+    mul-sum
+    add-sum
+    mul-sum-2
+    shared-slice-read-sum
+    mul-sum-3
+    add-sum-2
+    mul-sum-4
+    shared-slice-read-sum-2
+    add-k
+    loop-less
+    loop-again
+    returns)
