@@ -1,0 +1,44 @@
+-- The state after a step, put together of its parts: a record of equal fields is equal. Assumes nothing.
+use mathlib.Core.Path.{_≡_}
+use mathlib.Core.List.{List}
+use lib.Ieee.{Float}
+use Rattle.number.specs.Float.{_⊕_}
+use Rattle.mat3.specs.Matrix.{product, transform}
+use Rattle.imu.specs.declared.state.PreintegratedImu.{PreintegratedImu}
+use Rattle.imu.specs.declared.rotation.Increment.{Increment}
+use Rattle.imu.specs.Rotation.{hatOf}
+use Rattle.imu.specs.State.{walked}
+use Rattle.imu.specs.Step.{advancedBy, covarianceAfter, positionAfter, positionByAccel, positionByGyro, rotationAfter, rotationByGyro, velocityAfter, velocityByAccel, velocityByGyro}
+
+pub of-parts :
+    (s : PreintegratedImu) (d : Increment) (a : List Float) (dt : Float) {H G u R′ v′ p′ C′ B′ rg vg va pg pa : List Float}
+    → H ≡ hatOf a
+    → G ≡ product (s .«delta_rotation») H
+    → u ≡ transform (s .«delta_rotation») a
+    → R′ ≡ rotationAfter (s .«delta_rotation») d
+    → v′ ≡ velocityAfter (s .«delta_velocity») u dt
+    → p′ ≡ positionAfter (s .«delta_position») (s .«delta_velocity») u dt
+    → C′ ≡ covarianceAfter (s .covariance) (s .calib) (s .«delta_rotation») d G dt
+    → B′ ≡ walked s dt
+    → rg ≡ rotationByGyro (s .«d_rotation_d_bias_gyro») d dt
+    → vg ≡ velocityByGyro (s .«d_velocity_d_bias_gyro») (s .«d_rotation_d_bias_gyro») G dt
+    → va ≡ velocityByAccel (s .«d_velocity_d_bias_accel») (s .«delta_rotation») dt
+    → pg ≡ positionByGyro (s .«d_position_d_bias_gyro») (s .«d_velocity_d_bias_gyro») (s .«d_rotation_d_bias_gyro») G dt
+    → pa ≡ positionByAccel (s .«d_position_d_bias_accel») (s .«d_velocity_d_bias_accel») (s .«delta_rotation») dt
+    → _≡_ {A = PreintegratedImu} (record {
+      «delta_rotation» = R′;
+      «delta_velocity» = v′;
+      «delta_position» = p′;
+      dt = s .dt ⊕ dt;
+      bias = s .bias;
+      calib = s .calib;
+      covariance = C′;
+      «bias_covariance» = B′;
+      «d_rotation_d_bias_gyro» = rg;
+      «d_velocity_d_bias_gyro» = vg;
+      «d_velocity_d_bias_accel» = va;
+      «d_position_d_bias_gyro» = pg;
+      «d_position_d_bias_accel» = pa;
+    }) (advancedBy s d a dt)
+unfolding advancedBy
+of-parts s d a dt eH eG eu eR eV eP eC eB erg evg eva epg epa = rw (eR, eV, eP, eC, eB, erg, evg, eva, epg, epa, eG, eu, eH)
