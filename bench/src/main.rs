@@ -1,0 +1,271 @@
+//! Times each function of the proved library against the Rust on the same inputs: the best of several rounds, in nanoseconds for one call or step.
+//! Before a line is timed, both sides' answers are compared, so that neither is timed at doing nothing.
+mod mapping;
+
+use kornia_sensors::imu::{ImuBias, ImuCalib, ImuMeasurement, PreintegratedImu};
+use kornia_sensors::wheel::{DifferentialDrive, WheelMeasurement, WheelNoise, WheelPreintegration};
+use kornia_algebra::Vec3F64;
+use std::fmt::Write;
+use std::hint::black_box;
+use std::time::Instant;
+
+unsafe extern "C" {
+    fn latchfern_root(x: f64) -> f64;
+    fn latchfern_sine_plus_cosine(x: f64) -> f64;
+    fn latchfern_wheel_run(events: *const u8, n: usize) -> f64;
+    fn latchfern_replay(log: *const u8, n: usize) -> usize;
+    fn latchfern_order(samples: *const f64, n: usize, t0: f64, t1: f64, order: *mut usize, places: usize);
+    fn latchfern_inertial_batch(samples: *const f64, n: usize) -> f64;
+    #[allow(clippy::too_many_arguments)]
+    fn latchfern_information(heading: f64, cxx: f64, cxy: f64, cxw: f64, cyy: f64, cyw: f64, cww: f64) -> f64;
+}
+
+const ROUNDS: usize = 15;
+
+/// The shortest of some rounds, divided by the steps of one.
+fn best(steps: usize, mut round: impl FnMut()) -> f64 {
+    (0..ROUNDS)
+        .map(|_| {
+            let start = Instant::now();
+            round();
+            start.elapsed().as_secs_f64() * 1e9 / steps as f64
+        })
+        .fold(f64::INFINITY, f64::min)
+}
+
+fn line(name: &str, ours: f64, rust: f64) {
+    println!("| {name} | {ours:.1} | {rust:.1} | {:.2} |", ours / rust);
+}
+
+fn near(a: f64, b: f64) {
+    assert!((a - b).abs() <= 1e-9 * a.abs().max(b.abs()), "{a} {b}");
+}
+
+// ---- inputs: one walk, as 26-byte events and as the Rust's measurements
+
+struct Walk {
+    bytes: Vec<u8>,
+    readings: Vec<WheelMeasurement>,
+}
+
+fn walk(n: usize, hertz: f64) -> Walk {
+    let mut bytes = Vec::new();
+    let mut readings = Vec::new();
+    let (mut left, mut right) = (0i64, 0i64);
+    for i in 0..n {
+        let time = i as f64 / hertz;
+        left += (40000.0 / hertz) as i64 + (i % 7) as i64;
+        right += (43000.0 / hertz) as i64 + (i % 5) as i64;
+        bytes.extend([0, 1]);
+        bytes.extend(time.to_le_bytes());
+        bytes.extend(left.to_le_bytes());
+        bytes.extend(right.to_le_bytes());
+        readings.push(WheelMeasurement::ticks(time, [left, right]));
+    }
+    Walk { bytes, readings }
+}
+
+fn integrator() -> WheelPreintegration {
+    let drive = DifferentialDrive { wheel_radius: 0.1, track_width: 0.5, ticks_per_revolution: 65536.0 };
+    WheelPreintegration::new(drive, WheelNoise::default()).unwrap()
+}
+
+fn rust_run(readings: &[WheelMeasurement]) -> f64 {
+    let mut s = integrator();
+    for m in readings {
+        let _ = s.integrate(m);
+    }
+    black_box(s.motion());
+    s.dt()
+}
+
+fn wheel_steps(name: &str, hertz: f64) {
+    let w = walk(1000, hertz);
+    let ours = || unsafe { latchfern_wheel_run(black_box(w.bytes.as_ptr()), w.bytes.len()) };
+    near(ours(), rust_run(&w.readings));
+    let a = best(1000, || {
+        black_box(ours());
+    });
+    let b = best(1000, || {
+        black_box(rust_run(black_box(&w.readings)));
+    });
+    line(name, a, b);
+}
+
+// ---- the largest log. The Rust has no replay: what stands beside ours reads the same bytes, runs the Rust's integrator and writes the same lines.
+
+fn log(n: usize) -> Vec<u8> {
+    let mut log = 1u32.to_le_bytes().to_vec();
+    for x in [0.1f64, 0.5, 65536.0, 0.05, 0.01] {
+        log.extend(x.to_le_bytes());
+    }
+    log.extend((n as u32).to_le_bytes());
+    log.extend(walk(n, 10.0).bytes);
+    log
+}
+
+fn f64_at(s: &[u8], i: usize) -> f64 {
+    f64::from_le_bytes(s[i..i + 8].try_into().unwrap())
+}
+
+fn i64_at(s: &[u8], i: usize) -> i64 {
+    i64::from_le_bytes(s[i..i + 8].try_into().unwrap())
+}
+
+fn rust_replay(log: &[u8]) -> usize {
+    let drive = DifferentialDrive { wheel_radius: f64_at(log, 4), track_width: f64_at(log, 12), ticks_per_revolution: f64_at(log, 20) };
+    let noise = WheelNoise { wheel_rate: f64_at(log, 28), lateral_velocity: f64_at(log, 36) };
+    let mut s = WheelPreintegration::new(drive, noise).unwrap();
+    let mut text = String::with_capacity(65536);
+    let mut accepted = 0;
+    for (i, r) in log[48..].chunks_exact(26).enumerate() {
+        let time = f64_at(r, 2);
+        let mut m = match r[0] {
+            0 => WheelMeasurement::ticks(time, [i64_at(r, 10), i64_at(r, 18)]),
+            _ => WheelMeasurement::angular_velocity(time, [f64_at(r, 10), f64_at(r, 18)]),
+        };
+        m.valid = r[1] == 1;
+        match s.integrate(&m) {
+            Ok(()) => accepted += 1,
+            Err(e) => writeln!(text, "reading {i} refused {e:?}").unwrap(),
+        }
+    }
+    writeln!(text, "accepted {accepted}").unwrap();
+    writeln!(text, "dt {:016x}", s.dt().to_bits()).unwrap();
+    text.push_str("motion");
+    for x in s.motion().delta {
+        write!(text, " {:016x}", x.to_bits()).unwrap();
+    }
+    text.push_str("\ncovariance");
+    for x in s.motion().covariance.to_cols_array() {
+        write!(text, " {:016x}", x.to_bits()).unwrap();
+    }
+    text.push('\n');
+    black_box(&text);
+    text.len()
+}
+
+fn replay() {
+    let log = log(2518);
+    let ours = || unsafe { latchfern_replay(black_box(log.as_ptr()), log.len()) };
+    assert_eq!(ours(), rust_replay(&log));
+    let a = best(1, || {
+        black_box(ours());
+    });
+    let b = best(1, || {
+        black_box(rust_replay(black_box(&log)));
+    });
+    line("the replay of a log of 2,518 readings", a, b);
+}
+
+// ---- inertial samples
+
+fn samples(n: usize, hertz: f64) -> Vec<f64> {
+    (0..n)
+        .flat_map(|i| {
+            let w = (i % 11) as f64 * 0.01;
+            [i as f64 / hertz, 0.1 + w, -0.2, 0.3 - w, 0.1, w, 9.81]
+        })
+        .collect()
+}
+
+fn measurements(samples: &[f64]) -> Vec<ImuMeasurement> {
+    samples
+        .chunks_exact(7)
+        .map(|s| ImuMeasurement { timestamp: s[0], gyro: Vec3F64::new(s[1], s[2], s[3]), accel: Vec3F64::new(s[4], s[5], s[6]) })
+        .collect()
+}
+
+fn rust_batch(ms: &[ImuMeasurement]) -> f64 {
+    let calib = ImuCalib { gyro_noise: 0.001, accel_noise: 0.01, gyro_bias_noise: 0.001, accel_bias_noise: 0.01 };
+    let mut s = PreintegratedImu::new(ImuBias::default(), calib);
+    s.integrate_batch(ms);
+    let dt = s.dt;
+    black_box(&s);
+    dt
+}
+
+fn inertial_step() {
+    let flat = samples(1001, 200.0);
+    let ms = measurements(&flat);
+    let ours = || unsafe { latchfern_inertial_batch(black_box(flat.as_ptr()), flat.len()) };
+    near(ours(), rust_batch(&ms));
+    let a = best(1000, || {
+        black_box(ours());
+    });
+    let b = best(1000, || {
+        black_box(rust_batch(black_box(&ms)));
+    });
+    line("an inertial step", a, b);
+}
+
+fn ordering() {
+    let mut flat = samples(4096, 200.0);
+    for i in 0..4096 {
+        // an order that is neither sorted nor periodic: an odd multiplier, modulo 4,096
+        flat[7 * i] = ((i * 2654435761) % 4096) as f64 / 200.0;
+    }
+    let ms = measurements(&flat);
+    let mut order = vec![0usize; 4096];
+    let a = best(1, || unsafe { latchfern_order(black_box(flat.as_ptr()), flat.len(), 0.0, 100.0, order.as_mut_ptr(), order.len()) });
+    let rust = || {
+        let mut sorted: Vec<&ImuMeasurement> = ms.iter().filter(|m| m.timestamp >= 0.0 && m.timestamp <= 100.0).collect();
+        sorted.sort_by(|a, b| a.timestamp.total_cmp(&b.timestamp));
+        sorted
+    };
+    assert!(order.iter().zip(rust()).all(|(&i, m)| std::ptr::eq(&ms[i], m)));
+    let b = best(1, || {
+        black_box(rust());
+    });
+    line("an ordering of 4,096 samples", a, b);
+}
+
+// ---- small calls, a thousand at a time
+
+fn information() {
+    let c = |i: usize| 0.01 + i as f64 * 1e-5;
+    let ours = |i: usize| unsafe { latchfern_information(0.001 * i as f64, c(i), 0.001, 0.002, c(i), 0.003, c(i)) };
+    let rust = |i: usize| {
+        let m = mapping::wheel_odom::WheelOdomMeasurement::new(
+            [0.0, 0.0, 0.001 * i as f64],
+            [[c(i), 0.001, 0.002], [0.001, c(i), 0.003], [0.002, 0.003, c(i)]],
+        );
+        m.information().unwrap()
+    };
+    near(ours(3), rust(3)[0][0]);
+    let a = best(1000, || (0..1000).for_each(|i| drop(black_box(ours(black_box(i))))));
+    let b = best(1000, || (0..1000).for_each(|i| drop(black_box(rust(black_box(i))))));
+    line("an `information`", a, b);
+}
+
+fn numbers() {
+    let x = |i: usize| 0.001 + 0.003 * i as f64;
+    near(unsafe { latchfern_root(x(5)) }, x(5).sqrt());
+    let a = best(1000, || (0..1000).for_each(|i| drop(black_box(unsafe { latchfern_root(black_box(x(i))) }))));
+    let b = best(1000, || (0..1000).for_each(|i| drop(black_box(black_box(x(i)).sqrt()))));
+    line("a root", a, b);
+    let rust = |x: f64| {
+        let (s, c) = x.sin_cos();
+        s + c
+    };
+    near(unsafe { latchfern_sine_plus_cosine(x(5)) }, rust(x(5)));
+    let a = best(1000, || (0..1000).for_each(|i| drop(black_box(unsafe { latchfern_sine_plus_cosine(black_box(x(i))) }))));
+    let b = best(1000, || (0..1000).for_each(|i| drop(black_box(rust(black_box(x(i)))))));
+    line("a sine and cosine, up to 3 rad", a, b);
+    let y = |i: usize| 0.00003 * i as f64;
+    let a = best(1000, || (0..1000).for_each(|i| drop(black_box(unsafe { latchfern_sine_plus_cosine(black_box(y(i))) }))));
+    let b = best(1000, || (0..1000).for_each(|i| drop(black_box(rust(black_box(y(i)))))));
+    line("a sine and cosine, up to 0.03 rad", a, b);
+}
+
+fn main() {
+    println!("| | ours, ns | the Rust, ns | ours / the Rust |");
+    println!("|---|---|---|---|");
+    wheel_steps("a wheel step at 100 Hz", 100.0);
+    wheel_steps("a wheel step at 10 Hz", 10.0);
+    replay();
+    inertial_step();
+    ordering();
+    information();
+    numbers();
+}

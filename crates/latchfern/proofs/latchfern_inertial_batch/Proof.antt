@@ -1,0 +1,32 @@
+-- The board's densities and biases are fit, so the making gives the fresh state, and the batch is its batch. Assumes nothing.
+use mathlib.Core.Path.{_≡_, refl, ap, _∙_}
+use lib.Ieee as Ieee
+use Rattle.number.specs.Fit.{finiteNotNegative}
+use Rattle.number.specs.Said.{Told, accepts}
+use Rattle.mat3.specs.Matrix.{threeFinite}
+use Rattle.imu.specs.declared.state.PreintegratedImu.{PreintegratedImu}
+use Rattle.imu.specs.Batch.{Batched, batchOf}
+use Rattle.imu.specs.State.{finiteBias, fitCalib, makeOf}
+use Rattle.latchfern.specs.Exported.{board}
+use borrow.Author.Needs.{needs}
+use Rattle.latchfern.proofs.latchfern_inertial_batch.Statement.{statement}
+use Rattle.latchfern.proofs.latchfern_inertial_batch.Tie as tie
+
+taken : makeOf (board .bias) (board .calib) ≡ accepts board
+unfolding makeOf fitCalib finiteBias threeFinite finiteNotNegative Ieee.ofBits Ieee.le
+taken = refl
+
+new-requires : tie.Need-new-requires
+new-requires c κs = search needs
+
+integrate-batch-requires : tie.Need-integrate-batch-requires
+integrate-batch-requires c κs = search needs
+
+returns : tie.Need-returns
+returns c =
+    let samples = c .before .before .before .before .before .args .samples .now in
+    ap (λ (b : Batched). b .value .dt) (c .before .integrate-batch .ensures)
+    ∙ ap (λ (t : Told PreintegratedImu). batchOf (t .value) samples .value .dt) (c .before .before .before .new .ensures ∙ taken)
+
+pub latchfern-inertial-batch-spec : {M : Type 1} → statement M
+latchfern-inertial-batch-spec = tie.close (tie.spec new-requires integrate-batch-requires returns)
