@@ -33,6 +33,15 @@ fn best(steps: usize, mut round: impl FnMut()) -> f64 {
         .fold(f64::INFINITY, f64::min)
 }
 
+/// A thousand calls, for each of which the answer is looked at.
+fn thousand<T>(mut call: impl FnMut(usize) -> T) -> f64 {
+    best(1000, || {
+        for i in 0..1000 {
+            black_box(call(black_box(i)));
+        }
+    })
+}
+
 fn line(name: &str, ours: f64, rust: f64) {
     println!("| {name} | {ours:.1} | {rust:.1} | {:.2} |", ours / rust);
 }
@@ -233,28 +242,28 @@ fn information() {
         m.information().unwrap()
     };
     near(ours(3), rust(3)[0][0]);
-    let a = best(1000, || (0..1000).for_each(|i| drop(black_box(ours(black_box(i))))));
-    let b = best(1000, || (0..1000).for_each(|i| drop(black_box(rust(black_box(i))))));
+    let a = thousand(ours);
+    let b = thousand(rust);
     line("an `information`", a, b);
 }
 
 fn numbers() {
     let x = |i: usize| 0.001 + 0.003 * i as f64;
     near(unsafe { latchfern_root(x(5)) }, x(5).sqrt());
-    let a = best(1000, || (0..1000).for_each(|i| drop(black_box(unsafe { latchfern_root(black_box(x(i))) }))));
-    let b = best(1000, || (0..1000).for_each(|i| drop(black_box(black_box(x(i)).sqrt()))));
+    let a = thousand(|i| unsafe { latchfern_root(x(i)) });
+    let b = thousand(|i| x(i).sqrt());
     line("a root", a, b);
     let rust = |x: f64| {
         let (s, c) = x.sin_cos();
         s + c
     };
     near(unsafe { latchfern_sine_plus_cosine(x(5)) }, rust(x(5)));
-    let a = best(1000, || (0..1000).for_each(|i| drop(black_box(unsafe { latchfern_sine_plus_cosine(black_box(x(i))) }))));
-    let b = best(1000, || (0..1000).for_each(|i| drop(black_box(rust(black_box(x(i)))))));
+    let a = thousand(|i| unsafe { latchfern_sine_plus_cosine(x(i)) });
+    let b = thousand(|i| rust(x(i)));
     line("a sine and cosine, up to 3 rad", a, b);
     let y = |i: usize| 0.00003 * i as f64;
-    let a = best(1000, || (0..1000).for_each(|i| drop(black_box(unsafe { latchfern_sine_plus_cosine(black_box(y(i))) }))));
-    let b = best(1000, || (0..1000).for_each(|i| drop(black_box(rust(black_box(y(i)))))));
+    let a = thousand(|i| unsafe { latchfern_sine_plus_cosine(y(i)) });
+    let b = thousand(|i| rust(y(i)));
     line("a sine and cosine, up to 0.03 rad", a, b);
 }
 

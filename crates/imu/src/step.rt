@@ -88,10 +88,11 @@ impl PreintegratedImu {
         let va = self.d_velocity_d_bias_accel;
         let pg = self.d_position_d_bias_gyro;
         let pa = self.d_position_d_bias_accel;
+        let turned = rotation_after(rotation, d);
         let g = mat3::product(rotation, rotation::hat_of(a));
         let u = mat3::transform(rotation, a);
         PreintegratedImu {
-            delta_rotation: rotation_after(rotation, d),
+            delta_rotation: turned,
             delta_velocity: velocity_after(velocity, u, dt),
             delta_position: position_after(position, velocity, u, dt),
             dt: self.dt + dt,

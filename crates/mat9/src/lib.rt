@@ -1,68 +1,103 @@
 // The 9×9, 9×6 and 6×6 matrices of the inertial covariance: numbers column by column. From the helpers at the end of kornia's imu.rs.
-// Inside, one loop over slices serves every size; at the edges arrays are lent and a result is returned by value, so that no matrix is copied to be read.
+// Arrays are lent and a result is returned by value, so that no matrix is copied to be read. A product goes column by column: a column of b is read once, and
+// the nine rows of a, whose numbers stand next to each other, are then summed alike. Every size is a constant, so that no division is left to be done at run time.
 ghost use mathlib.Core.Path.{_≡_};
-ghost use Prim.Native.Nat.{_<_, _≤_, _*_, _+_, _%_, _/_};
-ghost use lib.ListN.{length};
-ghost use Rattle.mat9.specs.Matrix.{allFinite, blocks, diagonal6, diagonalRaised, finiteDiagonal, product as productOf, rowTimesColumn, sum as sumOf, transposed};
+ghost use Prim.Native.Nat.{_<_};
+ghost use Rattle.number.specs.Tabulated.{tabulated};
+ghost use Rattle.mat9.specs.Matrix.{allFinite, blocks, diagonal6, diagonalRaised, entry, finiteDiagonal, product as productOf, rowTimesColumn, sum as sumOf, transposed};
 
-// Row r of a, which has `rows` rows, times column c of b, which has `inner`.
-fn row_times_column(a: &[f64], b: &[f64], rows: usize, inner: usize, r: usize, c: usize) -> f64
-    requires { ⌜ r < rows ⌝ }
-    requires { ⌜ rows * inner ≤ length (now a) ⌝ }
-    requires { ⌜ inner + c * inner ≤ length (now b) ⌝ }
-    ensures { λ x. ⌜ x ≡ rowTimesColumn rows inner (now (a .entry)) (now (b .entry)) r c ⌝ }
+// Column c of b.
+fn column9(b: &[f64; 81], c: usize) -> [f64; 9]
+    requires { ⌜ c < 9 ⌝ }
+    ensures { λ x. ⌜ x ≡ tabulated 9 (λ k. entry 9 (now (b .entry)) k c) ⌝ }
 {
-    let mut sum = 0.0;
-    for k in 0..inner {
-        sum = sum + a[r + k * rows] * b[k + c * inner];
-    }
-    sum
+    let at = c * 9;
+    [
+        b[at],
+        b[1 + at],
+        b[2 + at],
+        b[3 + at],
+        b[4 + at],
+        b[5 + at],
+        b[6 + at],
+        b[7 + at],
+        b[8 + at],
+    ]
 }
 
-// Row r of a, which has `rows` rows, times row c of b, which has `cols`: what the transpose of b has as column c, read where it stands.
-fn row_times_row(
-    a: &[f64],
-    b: &[f64],
-    rows: usize,
-    cols: usize,
-    inner: usize,
-    r: usize,
-    c: usize,
-) -> f64
-    requires { ⌜ (r < rows) × (c < cols) ⌝ }
-    requires { ⌜ rows * inner ≤ length (now a) ⌝ }
-    requires { ⌜ cols * inner ≤ length (now b) ⌝ }
-    ensures { λ x. ⌜ x ≡ rowTimesColumn rows inner (now (a .entry)) (transposed cols inner (now (b .entry))) r c ⌝ }
+// Row c of b: what the transpose of b has as column c, read where it stands.
+fn row9(b: &[f64; 81], c: usize) -> [f64; 9]
+    requires { ⌜ c < 9 ⌝ }
+    ensures { λ x. ⌜ x ≡ tabulated 9 (λ k. entry 9 (now (b .entry)) c k) ⌝ }
 {
-    let mut sum = 0.0;
-    for k in 0..inner {
-        sum = sum + a[r + k * rows] * b[c + k * cols];
-    }
-    sum
+    [
+        b[c],
+        b[c + 9],
+        b[c + 18],
+        b[c + 27],
+        b[c + 36],
+        b[c + 45],
+        b[c + 54],
+        b[c + 63],
+        b[c + 72],
+    ]
 }
 
-// a, of `rows` rows and `inner` columns, times b, of `inner` rows and `cols` columns.
-fn product(out: &mut [f64], a: &[f64], b: &[f64], rows: usize, inner: usize, cols: usize)
-    requires { ⌜ rows * inner ≤ length (now a) ⌝ }
-    requires { ⌜ inner * cols ≤ length (now b) ⌝ }
-    requires { ⌜ length (now out) ≡ rows * cols ⌝ }
-    ensures { λ _. ⌜ now (out .exit) ≡ productOf rows inner cols (now (a .entry)) (now (b .entry)) ⌝ }
+// Column c of b.
+fn column6(b: &[f64; 36], c: usize) -> [f64; 6]
+    requires { ⌜ c < 6 ⌝ }
+    ensures { λ x. ⌜ x ≡ tabulated 6 (λ k. entry 6 (now (b .entry)) k c) ⌝ }
 {
-    for n in 0..out.len() {
-        out[n] = row_times_column(a, b, rows, inner, n % rows, n / rows);
-    }
+    let at = c * 6;
+    [b[at], b[1 + at], b[2 + at], b[3 + at], b[4 + at], b[5 + at]]
 }
 
-// a, of `rows` rows and `inner` columns, times the transpose of b, which has `cols` rows and `inner` columns.
-fn product_transposed(out: &mut [f64], a: &[f64], b: &[f64], rows: usize, inner: usize, cols: usize)
-    requires { ⌜ rows * inner ≤ length (now a) ⌝ }
-    requires { ⌜ cols * inner ≤ length (now b) ⌝ }
-    requires { ⌜ length (now out) ≡ rows * cols ⌝ }
-    ensures { λ _. ⌜ now (out .exit) ≡ productOf rows inner cols (now (a .entry)) (transposed cols inner (now (b .entry))) ⌝ }
+// Row c of b: what the transpose of b has as column c, read where it stands.
+fn row6(b: &[f64; 54], c: usize) -> [f64; 6]
+    requires { ⌜ c < 9 ⌝ }
+    ensures { λ x. ⌜ x ≡ tabulated 6 (λ k. entry 9 (now (b .entry)) c k) ⌝ }
 {
-    for n in 0..out.len() {
-        out[n] = row_times_row(a, b, rows, cols, inner, n % rows, n / rows);
-    }
+    [b[c], b[c + 9], b[c + 18], b[c + 27], b[c + 36], b[c + 45]]
+}
+
+// Row r of a times the column v: a sum from 0, from the left.
+fn row_times9(a: &[f64; 81], r: usize, v: [f64; 9]) -> f64
+    requires { ⌜ r < 9 ⌝ }
+    ensures { λ x. ⌜ x ≡ rowTimesColumn 9 9 (now (a .entry)) v r 0 ⌝ }
+{
+    let a0 = a[r];
+    let a1 = a[r + 9];
+    let a2 = a[r + 18];
+    let a3 = a[r + 27];
+    let a4 = a[r + 36];
+    let a5 = a[r + 45];
+    let a6 = a[r + 54];
+    let a7 = a[r + 63];
+    let a8 = a[r + 72];
+    0.0
+        + a0 * v[0]
+        + a1 * v[1]
+        + a2 * v[2]
+        + a3 * v[3]
+        + a4 * v[4]
+        + a5 * v[5]
+        + a6 * v[6]
+        + a7 * v[7]
+        + a8 * v[8]
+}
+
+// Row r of a times the column v: a sum from 0, from the left.
+fn row_times6(a: &[f64; 54], r: usize, v: [f64; 6]) -> f64
+    requires { ⌜ r < 9 ⌝ }
+    ensures { λ x. ⌜ x ≡ rowTimesColumn 9 6 (now (a .entry)) v r 0 ⌝ }
+{
+    let a0 = a[r];
+    let a1 = a[r + 9];
+    let a2 = a[r + 18];
+    let a3 = a[r + 27];
+    let a4 = a[r + 36];
+    let a5 = a[r + 45];
+    0.0 + a0 * v[0] + a1 * v[1] + a2 * v[2] + a3 * v[3] + a4 * v[4] + a5 * v[5]
 }
 
 // a · b.
@@ -70,7 +105,12 @@ pub fn mat9_mul(a: &[f64; 81], b: &[f64; 81]) -> [f64; 81]
     ensures { λ x. ⌜ x ≡ productOf 9 9 9 (now (a .entry)) (now (b .entry)) ⌝ }
 {
     let mut out = [0.0; 81];
-    product(&mut out, a, b, 9, 9, 9);
+    for c in 0..9 {
+        let v = column9(b, c);
+        for r in 0..9 {
+            out[r + c * 9] = row_times9(a, r, v);
+        }
+    }
     out
 }
 
@@ -79,7 +119,12 @@ pub fn mat9_mul_transposed(a: &[f64; 81], b: &[f64; 81]) -> [f64; 81]
     ensures { λ x. ⌜ x ≡ productOf 9 9 9 (now (a .entry)) (transposed 9 9 (now (b .entry))) ⌝ }
 {
     let mut out = [0.0; 81];
-    product_transposed(&mut out, a, b, 9, 9, 9);
+    for c in 0..9 {
+        let v = row9(b, c);
+        for r in 0..9 {
+            out[r + c * 9] = row_times9(a, r, v);
+        }
+    }
     out
 }
 
@@ -88,7 +133,12 @@ pub fn mat9x6_mul_6x6(a: &[f64; 54], b: &[f64; 36]) -> [f64; 54]
     ensures { λ x. ⌜ x ≡ productOf 9 6 6 (now (a .entry)) (now (b .entry)) ⌝ }
 {
     let mut out = [0.0; 54];
-    product(&mut out, a, b, 9, 6, 6);
+    for c in 0..6 {
+        let v = column6(b, c);
+        for r in 0..9 {
+            out[r + c * 9] = row_times6(a, r, v);
+        }
+    }
     out
 }
 
@@ -97,7 +147,12 @@ pub fn mat9x6_mul_transposed(a: &[f64; 54], b: &[f64; 54]) -> [f64; 81]
     ensures { λ x. ⌜ x ≡ productOf 9 6 9 (now (a .entry)) (transposed 9 6 (now (b .entry))) ⌝ }
 {
     let mut out = [0.0; 81];
-    product_transposed(&mut out, a, b, 9, 6, 9);
+    for c in 0..9 {
+        let v = row6(b, c);
+        for r in 0..9 {
+            out[r + c * 9] = row_times6(a, r, v);
+        }
+    }
     out
 }
 
@@ -117,8 +172,10 @@ pub fn block3x3_to_9x9(parts: [[f64; 9]; 9]) -> [f64; 81]
     ensures { λ x. ⌜ x ≡ blocks 3 3 parts ⌝ }
 {
     let mut out = [0.0; 81];
-    for n in 0..81 {
-        out[n] = parts[n % 9 / 3 * 3 + n / 9 / 3][n % 9 % 3 + 3 * (n / 9 % 3)];
+    for c in 0..9 {
+        for r in 0..9 {
+            out[r + c * 9] = parts[r / 3 * 3 + c / 3][r % 3 + 3 * (c % 3)];
+        }
     }
     out
 }
@@ -128,8 +185,10 @@ pub fn block3x2_to_9x6(parts: [[f64; 9]; 6]) -> [f64; 54]
     ensures { λ x. ⌜ x ≡ blocks 3 2 parts ⌝ }
 {
     let mut out = [0.0; 54];
-    for n in 0..54 {
-        out[n] = parts[n % 9 / 3 * 2 + n / 9 / 3][n % 9 % 3 + 3 * (n / 9 % 3)];
+    for c in 0..6 {
+        for r in 0..9 {
+            out[r + c * 9] = parts[r / 3 * 2 + c / 3][r % 3 + 3 * (c % 3)];
+        }
     }
     out
 }

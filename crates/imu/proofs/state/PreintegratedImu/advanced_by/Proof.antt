@@ -4,6 +4,9 @@ use borrow.Author.Needs.{needs}
 use Rattle.imu.proofs.state.PreintegratedImu.advanced_by.Statement.{statement}
 use Rattle.imu.proofs.state.PreintegratedImu.advanced_by.Tie as tie
 
+rotation-after-requires : tie.Need-rotation-after-requires
+rotation-after-requires c κs = search needs
+
 hat-of-requires : tie.Need-hat-of-requires
 hat-of-requires c κs = search needs
 
@@ -12,9 +15,6 @@ product-requires c κs = search needs
 
 transform-requires : tie.Need-transform-requires
 transform-requires c κs = search needs
-
-rotation-after-requires : tie.Need-rotation-after-requires
-rotation-after-requires c κs = search needs
 
 velocity-after-requires : tie.Need-velocity-after-requires
 velocity-after-requires c κs = search needs
@@ -48,10 +48,10 @@ returns c =
     let p = c .before .before in
     let q = p .before .before .before .before .before .before .before .before .before .before in
     of-parts _ _ _ _
-    (q .before .before .before .before .hat-of .ensures)
-    (q .before .before .before .product .ensures)
-    (q .before .before .transform .ensures)
-    (q .before .rotation-after .ensures)
+    (q .before .before .before .hat-of .ensures)
+    (q .before .before .product .ensures)
+    (q .before .transform .ensures)
+    (q .before .before .before .before .rotation-after .ensures)
     (q .velocity-after .ensures)
     (p .before .before .before .before .before .before .before .before .before .position-after .ensures)
     (p .before .before .before .before .before .before .covariance-after .ensures)
@@ -66,10 +66,10 @@ pub advanced-by-spec : {M : Type 1} → statement M
 advanced-by-spec =
     tie.close
     (tie.spec
+    rotation-after-requires
     hat-of-requires
     product-requires
     transform-requires
-    rotation-after-requires
     velocity-after-requires
     position-after-requires
     covariance-after-requires

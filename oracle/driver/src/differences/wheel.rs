@@ -1,0 +1,149 @@
+//! Composing, the wheel step, and what is asked of a drive.
+use super::{Row, listed, number, numbers};
+use crate::ours::Records;
+use crate::wheel::{least_halvings, parameter_words, reading_words};
+use kornia_algebra::Mat3F64;
+use kornia_sensors::wheel::{DifferentialDrive, PlanarMotion, WheelKinematics, WheelMeasurement, WheelNoise, WheelPreintegration};
+use std::f64::consts::{FRAC_PI_2, PI};
+
+pub fn rows() -> Vec<Row> {
+    let mut rows = vec![
+        heading("composed heading, wrapped", 2.0, 2.0),
+        heading("composed heading, exactly PI", FRAC_PI_2, FRAC_PI_2),
+        heading("composed heading, exactly −PI", -FRAC_PI_2, -FRAC_PI_2),
+        heading("composed heading, the next beyond PI", PI, 4.440892098500626e-16),
+        heading("composed heading, −0 and −0", -0.0, -0.0),
+        heading("composing a heading above 4", 5.0, 0.0),
+        heading("composing a number that is not finite", f64::NAN, 0.0),
+        step("step angle above 4", [0.0, 4194305.0], &[0.0, 1.0]),
+        step("total time that overflows", [0.0, 0.0], &[-1.7e308, 0.0, 1.7e308]),
+    ];
+    rows.extend(asked_rows());
+    rows.extend(halving_rows());
+    rows
+}
+
+fn heading(place: &'static str, a: f64, b: f64) -> Row {
+    let mut records = Records::default();
+    records.sixteen(&[7, 0, 0, a.to_bits()]);
+    records.sixteen(&[8]);
+    records.sixteen(&[15, 0, 0, b.to_bits()]);
+    let motion = |heading| PlanarMotion { delta: [0.0, 0.0, heading], covariance: Mat3F64::ZERO };
+    let rust = number(motion(a).compose(&motion(b)).delta[2]);
+    let input = format!("headings {} and {}", number(a), number(b));
+    Row { place, input, rust, records, lines: 3, read: |line| numbers(&line.after("motion", 3)[2..]) }
+}
+
+const DRIVE: DifferentialDrive = DifferentialDrive { wheel_radius: 1.0, track_width: 1.0, ticks_per_revolution: 1.0 };
+const QUIET: WheelNoise = WheelNoise { wheel_rate: 0.0, lateral_velocity: 0.0 };
+
+/// Constant rates at some times.
+fn step(place: &'static str, rates: [f64; 2], times: &[f64]) -> Row {
+    let mut records = Records::default();
+    records.sixteen(&parameter_words(1, &DRIVE, &QUIET));
+    let mut rust = WheelPreintegration::new(DRIVE, QUIET).expect("fit");
+    let mut said = String::new();
+    for t in times {
+        let m = WheelMeasurement::angular_velocity(*t, rates);
+        records.sixteen(&reading_words(&m, 3));
+        said = rust.integrate(&m).map_or_else(|e| format!("{e:?}"), |()| "accepted".into());
+    }
+    let input = format!("radius 1, track 1, no noise, rates {rates:?} at the times {}", listed(times));
+    let [x, y, heading] = rust.motion().delta;
+    let rust = format!("{said}, dt {}, motion {}, {}, {}", number(rust.dt()), number(x), number(y), number(heading));
+    Row {
+        place,
+        input,
+        rust,
+        records,
+        lines: 2 + times.len(),
+        read: |line| format!("accepted, motion {}", numbers(&line.after("motion", 3))),
+    }
+}
+
+fn asked_rows() -> Vec<Row> {
+    let no_radius = DifferentialDrive { wheel_radius: 0.0, ..DRIVE };
+    let large = DifferentialDrive { wheel_radius: 1e308, ..DRIVE };
+    let steep = DifferentialDrive { track_width: 1e-308, wheel_radius: 1e10, ..DRIVE };
+    let twist = |place, input: &str, drive: DifferentialDrive, rates: [f64; 2]| {
+        let t = drive.twist(rates);
+        row(place, input, &drive, &[12, rates[0].to_bits(), rates[1].to_bits()], &[t.vx, t.vy, t.wz])
+    };
+    let rates = |place, input: &str, ticks: [i64; 2], dt: f64| {
+        row(place, input, &DRIVE, &[13, ticks[0] as u64, ticks[1] as u64, dt.to_bits()], &DRIVE.wheel_rates_from_ticks(ticks, dt))
+    };
+    let jacobian = |place, input: &str, drive: DifferentialDrive| {
+        let [l, r] = drive.twist_jacobian([0.0; 2]);
+        row(place, input, &drive, &[14], &[l.to_array(), r.to_array()].concat())
+    };
+    vec![
+        twist("twist of an unfit drive", "radius 0, rates 1, 1", no_radius, [1.0, 1.0]),
+        twist("twist of a rate that is not finite", "radius 1, track 1, rates NaN, 1", DRIVE, [f64::NAN, 1.0]),
+        twist("twist that overflows", "radius 1e308, track 1, rates 10, 10", large, [10.0, 10.0]),
+        rates("rates over no time", "ticks 1, 0, dt 0", [1, 0], 0.0),
+        rates("rates over a time below 0", "ticks 1, 0, dt −1", [1, 0], -1.0),
+        rates("rates over a time that is not finite", "ticks 1, 0, dt NaN", [1, 0], f64::NAN),
+        rates("rates that overflow", "ticks 1, 0, dt 5e-324", [1, 0], 5e-324),
+        jacobian("Jacobian of an unfit drive", "radius 0", no_radius),
+        jacobian("Jacobian that overflows", "radius 1e10, track 1e-308", steep),
+    ]
+}
+
+fn row(place: &'static str, input: &str, drive: &DifferentialDrive, ask: &[u64], rust: &[f64]) -> Row {
+    let mut records = Records::default();
+    records.sixteen(&parameter_words(6, drive, &QUIET));
+    records.sixteen(ask);
+    let rust = listed(rust);
+    Row { place, input: input.into(), rust, records, lines: 2, read: |line| numbers(&line.after("gives", 6)) }
+}
+
+/// The Rust's count, which is private there: its own expression.
+fn rust_halvings(ratio: f64) -> u32 {
+    (ratio.log2().ceil() as u32).min(20)
+}
+
+pub fn print_reach_of_log2() {
+    let reach = |power: f64| {
+        let above = |n: &u64| f64::from_bits(power.to_bits() + n);
+        (1..100).filter(|n| rust_halvings(above(n)) != least_halvings(above(n))).max().unwrap_or(0)
+    };
+    let reaches: Vec<_> = (1..20).map(|k| reach(f64::from(1u32 << k)).to_string()).collect();
+    println!("f64s just above 2^1 .. 2^19 of which the Rust counts one halving less: {}", reaches.join(" "));
+}
+
+/// The first ratio above each of two powers of two whose `log2().ceil()` is not the least count, as a time step.
+fn halving_rows() -> Vec<Row> {
+    let first = |power: f64| {
+        let near = power * 0.01;
+        (-8..64i64)
+            .map(|n| f64::from_bits(near.to_bits().wrapping_add_signed(n)))
+            .find(|dt| dt / 0.01 > power && rust_halvings(dt / 0.01) != least_halvings(dt / 0.01))
+    };
+    let powers: Vec<f64> = (1..20).map(|k| f64::from(1u32 << k)).filter(|p| first(*p).is_some()).collect();
+    [powers.first(), powers.last()].into_iter().flatten().filter_map(|p| first(*p)).map(halving_row).collect()
+}
+
+fn halving_row(dt: f64) -> Row {
+    let noise = WheelNoise { wheel_rate: 1.0, lateral_velocity: 0.0 };
+    let mut records = Records::default();
+    records.sixteen(&parameter_words(1, &DRIVE, &noise));
+    let mut rust = WheelPreintegration::new(DRIVE, noise).expect("fit");
+    for t in [0.0, dt] {
+        let m = WheelMeasurement::angular_velocity(t, [1.0, 1.0]);
+        records.sixteen(&reading_words(&m, 3));
+        rust.integrate(&m).expect("accepted");
+    }
+    let ratio = dt / 0.01;
+    let rust = format!("{} halvings, variance of y {}", ratio.log2().ceil(), rust.motion().covariance.to_cols_array()[4]);
+    Row {
+        place: "halving count just above a power of two",
+        input: format!("dt {dt}, ratio {ratio}, radius 1, track 1, wheel noise 1, rates 1, 1"),
+        rust,
+        records,
+        lines: 4,
+        read: |line| {
+            let k = least_halvings(f64::from_bits(line.after("dt", 1)[0]) / 0.01);
+            format!("{k} halvings, variance of y {}", numbers(&line.after("covariance", 9)[4..5]))
+        },
+    }
+}

@@ -1,0 +1,488 @@
+//! Runs of the inertial accumulation: steps, corrections, predictions, widening, batches and windows.
+use crate::ours::{Line, Ours, Records};
+use crate::random::{LEAST, MOST, Random};
+use crate::report::{Group, larger, largest};
+use kornia_algebra::{Mat3F64, Vec3F64};
+use kornia_sensors::imu::{GRAVITY_MAGNITUDE, ImuBias, ImuCalib, ImuMeasurement, PreintegratedImu};
+
+/// Numbers of a line of ours, and the Rust's, with the size that they are judged by.
+struct Check {
+    what: &'static str,
+    line: usize,
+    word: &'static str,
+    skip: usize,
+    rust: Vec<f64>,
+    size: f64,
+}
+
+/// What is expected of one record.
+struct Expected {
+    lines: usize,
+    refusal: u64,
+    dt: Option<f64>,
+    order: Option<Vec<usize>>,
+    checks: Vec<Check>,
+}
+
+#[derive(Default)]
+pub struct Run {
+    records: Records,
+    expected: Vec<Expected>,
+    sizes: Sizes,
+    steps: u64,
+}
+
+/// The largest sizes that the groups of numbers reached in a run, by the Rust.
+#[derive(Default)]
+pub struct Sizes(pub [f64; 10]);
+
+// ---- the Rust
+
+const NAMES: [&str; 10] = [
+    "rotation",
+    "velocity",
+    "position",
+    "covariance",
+    "bias covariance",
+    "Jacobian, rotation by gyro bias",
+    "Jacobian, velocity by gyro bias",
+    "Jacobian, velocity by accel bias",
+    "Jacobian, position by gyro bias",
+    "Jacobian, position by accel bias",
+];
+
+pub fn groups(p: &PreintegratedImu) -> [Vec<f64>; 10] {
+    let matrix = |m: &Mat3F64| m.to_cols_array().to_vec();
+    [
+        matrix(&p.delta_rotation),
+        p.delta_velocity.to_array().to_vec(),
+        p.delta_position.to_array().to_vec(),
+        p.covariance.to_vec(),
+        p.bias_covariance.to_vec(),
+        matrix(&p.d_rotation_d_bias_gyro),
+        matrix(&p.d_velocity_d_bias_gyro),
+        matrix(&p.d_velocity_d_bias_accel),
+        matrix(&p.d_position_d_bias_gyro),
+        matrix(&p.d_position_d_bias_accel),
+    ]
+}
+
+/// The angle of a rotation vector, as document 01 takes it.
+pub fn angle(v: Vec3F64) -> f64 {
+    v.dot(v).sqrt()
+}
+
+impl Sizes {
+    pub fn reach(&mut self, rust: &PreintegratedImu) {
+        for (size, xs) in self.0.iter_mut().zip(groups(rust)) {
+            *size = larger(*size, largest(&xs));
+        }
+    }
+
+    /// Of a corrected rotation, velocity and position: those of the run and of the terms (reading 17).
+    pub fn of_correction(&self, rust: &PreintegratedImu, bias: &ImuBias) -> [f64; 3] {
+        let (dbg, dba) = (bias.gyro - rust.bias.gyro, bias.accel - rust.bias.accel);
+        let by = |i: usize, d: Vec3F64| 3.0 * self.0[i] * largest(&d.to_array());
+        let vector = |i: usize| [self.0[i], by(4 + 2 * i, dbg), by(5 + 2 * i, dba)].into_iter().fold(0.0, larger);
+        [self.0[0], vector(1), vector(2)]
+    }
+
+    /// Of a predicted rotation, velocity and position: those of the terms (reading 17).
+    pub fn of_prediction(&self, dt: f64, from: &World) -> [f64; 3] {
+        let turn = largest(&from.r.to_cols_array());
+        let [v, p, g] = [from.v, from.p, from.g].map(|x| largest(&x.to_array()));
+        let size = |xs: &[f64]| xs.iter().copied().fold(0.0, larger);
+        [turn * self.0[0], size(&[v, g * dt, turn * self.0[1]]), size(&[p, v * dt, g * dt * dt, turn * self.0[2]])]
+    }
+}
+
+/// What a prediction starts from.
+pub struct World {
+    pub r: Mat3F64,
+    pub v: Vec3F64,
+    pub p: Vec3F64,
+    pub g: Vec3F64,
+}
+
+impl World {
+    pub fn put(&self, records: &mut Records) {
+        records.numbers(&self.r.to_cols_array());
+        for x in [self.v, self.p, self.g] {
+            records.numbers(&x.to_array());
+        }
+    }
+}
+
+impl Run {
+    fn expect(&mut self, lines: usize, dt: Option<f64>, checks: Vec<Check>) {
+        self.expected.push(Expected { lines, refusal: 0, dt, order: None, checks });
+    }
+
+    fn refuse8(&mut self) {
+        self.expected.push(Expected { lines: 1, refusal: 8, dt: None, order: None, checks: vec![] });
+    }
+
+    /// The line of a call that gives a state: its motion.
+    fn expect_motion(&mut self, rust: &PreintegratedImu) {
+        self.sizes.reach(rust);
+        let checks = self.motion_checks(rust);
+        self.expect(1, Some(rust.dt), checks);
+    }
+
+    fn motion_checks(&self, rust: &PreintegratedImu) -> Vec<Check> {
+        let all = groups(rust).into_iter().zip(self.sizes.0).zip(NAMES).take(3);
+        all.map(|((rust, size), what)| Check { what, line: 0, word: what, skip: 0, rust, size }).collect()
+    }
+
+    fn make(&mut self, bias: &ImuBias, calib: &ImuCalib) -> PreintegratedImu {
+        self.records.word(2);
+        put_bias(&mut self.records, bias);
+        put_calib(&mut self.records, calib);
+        let rust = PreintegratedImu::new(*bias, *calib);
+        self.expect_motion(&rust);
+        rust
+    }
+
+    fn step(&mut self, rust: &mut PreintegratedImu, m: &ImuMeasurement, dt: f64) {
+        self.records.word(3);
+        put_measurement(&mut self.records, m);
+        self.records.numbers(&[dt]);
+        if angle((m.gyro - rust.bias.gyro) * dt) > 4.0 {
+            return self.refuse8();
+        }
+        rust.integrate(m, dt);
+        self.steps += 1;
+        self.expect_motion(rust);
+    }
+
+    /// Every number of the state.
+    fn show(&mut self, rust: &PreintegratedImu) {
+        self.records.word(16);
+        let mut checks = self.motion_checks(rust);
+        for (i, rust) in groups(rust).into_iter().enumerate().skip(3) {
+            let (line, word, skip) = match i {
+                3 => (2, "covariance", 0),
+                4 => (3, "covariance", 0),
+                _ => (4, "jacobians", (i - 5) * 9),
+            };
+            checks.push(Check { what: NAMES[i], line, word, skip, rust, size: self.sizes.0[i] });
+        }
+        self.expect(5, Some(rust.dt), checks);
+    }
+
+    fn widen(&mut self, rust: &mut PreintegratedImu, seconds: f64) {
+        self.records.word(4);
+        self.records.numbers(&[seconds]);
+        rust.widen_bias_walk(seconds);
+        self.expect_motion(rust);
+    }
+
+    /// The three corrections.
+    fn correct(&mut self, rust: &PreintegratedImu, bias: &ImuBias) {
+        for kind in 12..15 {
+            self.records.word(kind);
+            put_bias(&mut self.records, bias);
+        }
+        let sizes = self.sizes.of_correction(rust, bias);
+        if angle(rust.d_rotation_d_bias_gyro * (bias.gyro - rust.bias.gyro)) > 4.0 {
+            self.refuse8();
+        } else {
+            self.asked("corrected rotation", &rust.delta_rotation_with_bias(bias).to_cols_array(), sizes[0]);
+        }
+        self.asked("corrected velocity", &rust.delta_velocity_with_bias(bias).to_array(), sizes[1]);
+        self.asked("corrected position", &rust.delta_position_with_bias(bias).to_array(), sizes[2]);
+    }
+
+    fn asked(&mut self, what: &'static str, rust: &[f64], size: f64) {
+        self.expect(1, None, vec![Check { what, line: 0, word: "accepted", skip: 0, rust: rust.to_vec(), size }]);
+    }
+
+    fn predict(&mut self, rust: &PreintegratedImu, from: &World) {
+        self.records.word(15);
+        from.put(&mut self.records);
+        let (r, v, p) = rust.predict(&from.r, &from.v, &from.p, &from.g);
+        let sizes = self.sizes.of_prediction(rust.dt, from);
+        let check = |what, word, rust: &[f64], size| Check { what, line: 0, word, skip: 0, rust: rust.to_vec(), size };
+        let checks = vec![
+            check("predicted rotation", "rotation", &r.to_cols_array(), sizes[0]),
+            check("predicted velocity", "velocity", &v.to_array(), sizes[1]),
+            check("predicted position", "position", &p.to_array(), sizes[2]),
+        ];
+        self.expect(1, None, checks);
+    }
+
+    fn batch(&mut self, rust: &mut PreintegratedImu, samples: &[ImuMeasurement]) {
+        self.records.word(5);
+        put_samples(&mut self.records, samples);
+        rust.integrate_batch(samples);
+        self.steps += samples.len().saturating_sub(1) as u64;
+        self.expect_motion(rust);
+    }
+
+    fn window(&mut self, w: &Window) -> PreintegratedImu {
+        self.records.word(6);
+        put_bias(&mut self.records, &w.bias);
+        put_calib(&mut self.records, &w.calib);
+        self.records.numbers(&[w.t0, w.t1]);
+        self.records.word(w.samples.len() as u64);
+        put_samples(&mut self.records, &w.samples);
+        let rust = w.rust();
+        // The order is the Rust's own expression, over indices.
+        let time = |i: &usize| w.samples[*i].timestamp;
+        let mut order: Vec<usize> = (0..w.samples.len()).filter(|i| time(i) >= w.t0 && time(i) <= w.t1).collect();
+        order.sort_by(|a, b| time(a).total_cmp(&time(b)));
+        self.steps += order.len() as u64;
+        self.expect_motion(&rust);
+        self.expected.last_mut().expect("one").order = Some(order);
+        rust
+    }
+}
+
+// ---- records
+
+pub fn put_bias(r: &mut Records, b: &ImuBias) {
+    r.numbers(&b.gyro.to_array());
+    r.numbers(&b.accel.to_array());
+}
+
+pub fn put_calib(r: &mut Records, c: &ImuCalib) {
+    r.numbers(&[c.gyro_noise, c.accel_noise, c.gyro_bias_noise, c.accel_bias_noise]);
+}
+
+pub fn put_measurement(r: &mut Records, m: &ImuMeasurement) {
+    r.numbers(&[m.timestamp]);
+    r.numbers(&m.gyro.to_array());
+    r.numbers(&m.accel.to_array());
+}
+
+pub fn put_samples(r: &mut Records, samples: &[ImuMeasurement]) {
+    for _ in 0..2 {
+        r.word(7 * samples.len() as u64);
+    }
+    for m in samples {
+        put_measurement(r, m);
+    }
+}
+
+// ---- what is drawn
+
+/// The largest sizes that a run draws, and whether evenly below them.
+pub struct Style {
+    rate: f64,
+    accel: f64,
+    step: f64,
+    is_tame: bool,
+}
+
+impl Style {
+    fn number(&self, random: &mut Random, most: f64) -> f64 {
+        if random.once_in(16) {
+            0.0
+        } else if self.is_tame {
+            random.between(-most, most)
+        } else {
+            random.signed(LEAST, most)
+        }
+    }
+
+    fn vector(&self, random: &mut Random, most: f64) -> Vec3F64 {
+        Vec3F64::from_array(random.three(|r| self.number(r, most)))
+    }
+
+    pub fn measurement(&self, random: &mut Random, timestamp: f64) -> ImuMeasurement {
+        ImuMeasurement { timestamp, gyro: self.vector(random, self.rate), accel: self.vector(random, self.accel) }
+    }
+
+    pub fn bias(&self, random: &mut Random) -> ImuBias {
+        let part = if self.is_tame { 0.05 } else { 1.0 };
+        ImuBias { gyro: self.vector(random, part * self.rate), accel: self.vector(random, part * self.accel) }
+    }
+
+    pub fn calib(&self, random: &mut Random) -> ImuCalib {
+        let mut some = |tame: f64| if self.is_tame { random.between(0.0, tame) } else { random.any_size() };
+        ImuCalib { gyro_noise: some(2e-3), accel_noise: some(2e-2), gyro_bias_noise: some(2e-5), accel_bias_noise: some(2e-4) }
+    }
+
+    pub fn dt(&self, random: &mut Random) -> f64 {
+        if self.is_tame { random.between(0.001, self.step) } else { random.size(LEAST, self.step) }
+    }
+}
+
+pub fn domain_style(random: &mut Random) -> Style {
+    let rate = random.size(2e-6, MOST);
+    let step = random.size(2e-6, (8.0 / rate).clamp(4e-6, MOST));
+    Style { rate, accel: random.size(2e-6, MOST), step, is_tame: false }
+}
+
+pub const TAME: Style = Style { rate: 2.0, accel: 12.0, step: 0.01, is_tame: true };
+
+fn drawn(random: &mut Random, style: &Style, length: u64) -> Run {
+    let mut run = Run::default();
+    let mut rust = run.make(&style.bias(random), &style.calib(random));
+    for i in 1..=length {
+        let time = random.any();
+        let m = style.measurement(random, time);
+        let dt = style.dt(random);
+        run.step(&mut rust, &m, dt);
+        if i % 25 == 0 || i == length {
+            run.show(&rust);
+        }
+        if i % 100 == 0 || i == length {
+            ask(random, style, &mut run, &rust);
+        }
+    }
+    let seconds = random.one_of(&[0.0, -1.0, f64::NAN, f64::INFINITY, 1.0, 1e6, 0.25, 1e-6]);
+    run.widen(&mut rust, seconds);
+    run.show(&rust);
+    let count = random.below(60);
+    if let Some(samples) = batch(random, style, &rust, count) {
+        run.batch(&mut rust, &samples);
+        run.show(&rust);
+    }
+    run
+}
+
+/// Corrections at biases near by and anywhere, and a prediction.
+fn ask(random: &mut Random, style: &Style, run: &mut Run, rust: &PreintegratedImu) {
+    run.correct(rust, &near_bias(random, style, rust));
+    run.correct(rust, &style.bias(random));
+    run.predict(rust, &world(random, style));
+}
+
+/// A bias that turns a correction by less than 4.
+pub fn near_bias(random: &mut Random, style: &Style, rust: &PreintegratedImu) -> ImuBias {
+    let near = 0.4 / larger(1.0, largest(&rust.d_rotation_d_bias_gyro.to_cols_array()));
+    let off = Vec3F64::from_array(random.three(|r| r.between(-near, near)));
+    ImuBias { gyro: rust.bias.gyro + off, accel: style.vector(random, style.accel) }
+}
+
+pub fn world(random: &mut Random, style: &Style) -> World {
+    let r: [f64; 9] = std::array::from_fn(|_| if style.is_tame { random.between(-1.0, 1.0) } else { random.any() });
+    let vector = |random: &mut Random| Vec3F64::from_array(random.three(Random::any));
+    let (v, p) = (vector(random), vector(random));
+    let g = if style.is_tame { Vec3F64::new(0.0, 0.0, -GRAVITY_MAGNITUDE) } else { vector(random) };
+    World { r: Mat3F64::from_cols_array(&r), v, p, g }
+}
+
+/// Samples at rising times of which no step turns above 4.
+pub fn batch(random: &mut Random, style: &Style, rust: &PreintegratedImu, count: u64) -> Option<Vec<ImuMeasurement>> {
+    let mut time = random.one_of(&[0.0, 1.0, -1.0]);
+    let mut samples = vec![];
+    for _ in 0..count {
+        samples.push(style.measurement(random, time));
+        time += style.dt(random);
+        if time.abs() < LEAST {
+            time = 0.0;
+        }
+    }
+    let turns = samples.windows(2).map(|w| angle((w[0].gyro - rust.bias.gyro) * (w[1].timestamp - w[0].timestamp)));
+    let is_fit = turns.fold(0.0, larger) <= 4.0 && time.abs() <= MOST && samples.windows(2).all(|w| w[1].timestamp > w[0].timestamp);
+    is_fit.then_some(samples)
+}
+
+pub struct Window {
+    pub bias: ImuBias,
+    pub calib: ImuCalib,
+    pub samples: Vec<ImuMeasurement>,
+    pub t0: f64,
+    pub t1: f64,
+}
+
+impl Window {
+    pub fn rust(&self) -> PreintegratedImu {
+        PreintegratedImu::from_measurements(self.bias, self.calib, &self.samples, self.t0, self.t1)
+    }
+}
+
+/// Samples in any order, some outside the window or at one time, some at no time, with rates that turn at most 4 in the whole window.
+pub fn window(random: &mut Random, n: u64) -> Window {
+    let t0 = random.one_of(&[0.0, -0.0, 1.0, -5.0, 100.0]);
+    let t1 = t0 + random.size(1e-3, 1e5);
+    let length = t1 - t0;
+    let style = Style { rate: (0.5 / length).clamp(LEAST, MOST), accel: random.size(1e-3, MOST), step: 0.0, is_tame: random.once_in(2) };
+    let mut samples = vec![];
+    for i in 0..n {
+        let time = match random.below(24) {
+            0 => t0,
+            1 => t1,
+            2 => -0.0,
+            3 => f64::NAN,
+            4 => random.one_of(&[f64::INFINITY, f64::NEG_INFINITY]),
+            5 if i > 0 => samples[random.below(i) as usize],
+            6 => t0 - random.size(1e-3, 1e3),
+            7 => t1 + random.size(1e-3, 1e3),
+            _ => random.between(t0, t1),
+        };
+        samples.push(if time.abs() < LEAST && time != 0.0 { 0.0 } else { time });
+    }
+    let samples: Vec<_> = samples.into_iter().map(|t| style.measurement(random, t)).collect();
+    Window { bias: style.bias(random), calib: style.calib(random), samples, t0, t1 }
+}
+
+fn window_run(random: &mut Random) -> Run {
+    let n = random.one_of(&[0, 1, 2, 5, 30, 200]);
+    let w = window(random, n);
+    let mut run = Run::default();
+    let rust = run.window(&w);
+    run.show(&rust);
+    run
+}
+
+pub fn domain_runs(random: &mut Random) -> Vec<Run> {
+    let mut all = vec![];
+    for i in 0..80 {
+        let style = domain_style(random);
+        let length = if i % 4 == 0 { 1000 } else { 1 + random.below(400) };
+        all.push(drawn(random, &style, length));
+    }
+    all
+}
+
+pub fn tame_runs(random: &mut Random) -> Vec<Run> {
+    (0..20).map(|_| drawn(random, &TAME, 1000)).collect()
+}
+
+pub fn window_runs(random: &mut Random) -> Vec<Run> {
+    (0..400).map(|_| window_run(random)).collect()
+}
+
+// ---- ours
+
+impl Run {
+    fn judge<'a>(&self, group: &mut Group, mut lines: &'a [String]) -> &'a [String] {
+        for e in &self.expected {
+            let own: Vec<_> = lines[..e.lines].iter().map(|l| Line::new(l)).collect();
+            lines = &lines[e.lines..];
+            group.same("accepted", own[0].refusal()[0], e.refusal);
+            if e.refusal == 8 {
+                group.leave_out("steps and corrections refused by the added 8, not given to the Rust");
+            }
+            if let Some(dt) = e.dt {
+                group.same_floats("dt", &own[0].after("dt", 1), &[dt]);
+            }
+            if let Some(order) = &e.order {
+                group.same("order of the window", own[0].decimals("order", order.len()), order.clone());
+            }
+            for c in &e.checks {
+                let bits = own[c.line].after(c.word, c.skip + c.rust.len());
+                let ours: Vec<_> = bits.iter().skip(c.skip).map(|b| f64::from_bits(*b)).collect();
+                group.same("how many numbers", ours.len(), c.rust.len());
+                group.near(c.what, &ours, &c.rust, c.size);
+            }
+        }
+        group.parts.1 += self.steps;
+        group.cases += 1;
+        lines
+    }
+}
+
+pub fn runs(ours: &Ours, name: &'static str, runs: &[Run]) -> Group {
+    let records = Records(runs.iter().flat_map(|r| r.records.0.clone()).collect());
+    let lines = ours.lines("imu_cases", &records, runs.iter().flat_map(|r| &r.expected).map(|e| e.lines).sum());
+    let mut group = Group::new(name, "steps");
+    let mut rest = &lines[..];
+    for run in runs {
+        rest = run.judge(&mut group, rest);
+    }
+    group
+}

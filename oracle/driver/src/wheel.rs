@@ -1,0 +1,557 @@
+//! Runs through the wheel integrator, and what is asked of a drive on its own.
+use crate::ours::{Line, Ours, Records, floats};
+use crate::random::{LEAST, MOST, Random};
+use crate::report::{Group, larger, largest};
+use kornia_algebra::Mat3F64;
+use kornia_sensors::wheel::{
+    BodyTwist, DifferentialDrive, MAX_SUBSTEP_ANGLE, MAX_SUBSTEP_SECONDS, PlanarMotion, WheelError, WheelKinematics, WheelMeasurement,
+    WheelNoise, WheelPreintegration, WheelReading,
+};
+use std::f64::consts::PI;
+
+type Integrator = WheelPreintegration<DifferentialDrive>;
+
+/// What the Rust said to one record, and its state after it.
+pub struct Seen {
+    pub event: Event,
+    /// The refusal and what it carries, or 0.
+    pub said: Vec<u64>,
+    pub delta: [f64; 3],
+    pub covariance: [f64; 9],
+    pub dt: f64,
+    pub last: Option<WheelMeasurement>,
+    /// How far from its start the interval came on its way, and how far it turned, PI at most.
+    way: (f64, f64),
+}
+
+#[derive(Clone, Copy, PartialEq)]
+pub enum Event {
+    Reading(WheelMeasurement),
+    /// A reading that the added refusal 8 keeps from the Rust.
+    Refused8(WheelMeasurement),
+    Restart,
+}
+
+pub struct Run {
+    pub drive: DifferentialDrive,
+    pub noise: WheelNoise,
+    pub seen: Vec<Seen>,
+    /// Readings drawn and given to neither, by their ratio.
+    pub near_power: u64,
+}
+
+// ---- the Rust
+
+fn refusal(e: WheelError) -> Vec<u64> {
+    match e {
+        WheelError::Invalid => vec![1],
+        WheelError::NonFinite => vec![2],
+        WheelError::OutOfOrder { timestamp, last } => vec![3, timestamp.to_bits(), last.to_bits()],
+        WheelError::Duplicate(timestamp) => vec![4, timestamp.to_bits()],
+        WheelError::MixedReadings => vec![5],
+        WheelError::InvalidNoise => vec![6],
+        WheelError::InvalidKinematics => vec![7],
+    }
+}
+
+/// A reading's time step and twist, where the Rust would come to them.
+fn interval(drive: &DifferentialDrive, last: &WheelMeasurement, m: &WheelMeasurement) -> Option<(f64, BodyTwist)> {
+    let dt = m.timestamp - last.timestamp;
+    if !(m.valid && dt > 0.0) {
+        return None;
+    }
+    let rates = match (last.reading, m.reading) {
+        (WheelReading::Ticks(a), WheelReading::Ticks(b)) => {
+            drive.wheel_rates_from_ticks([b[0].wrapping_sub(a[0]), b[1].wrapping_sub(a[1])], dt)
+        }
+        (WheelReading::AngularVelocity(a), WheelReading::AngularVelocity(b)) => [0.5 * (a[0] + b[0]), 0.5 * (a[1] + b[1])],
+        _ => return None,
+    };
+    Some((dt, drive.twist(rates)))
+}
+
+/// The ratio that the halvings are counted by.
+fn ratio(dt: f64, twist: &BodyTwist) -> f64 {
+    (dt / MAX_SUBSTEP_SECONDS).max((twist.wz * dt).abs() / MAX_SUBSTEP_ANGLE)
+}
+
+/// Document 01's count: the least k with 2^k not below the ratio, at most 20.
+pub fn least_halvings(ratio: f64) -> u32 {
+    if ratio <= 1.0 + 1e-9 {
+        return 0;
+    }
+    (0..20).find(|k| f64::from(1u32 << k) >= ratio).unwrap_or(20)
+}
+
+/// "ratio not within 1e-12 relative above a power of two". At most 1+1e-9 both count 0, so that is compared.
+fn is_near_power(ratio: f64) -> bool {
+    let power = f64::from_bits(ratio.to_bits() & 0x7ff0_0000_0000_0000);
+    ratio > 1.0 + 1e-9 && ratio > power && ratio - power <= 1e-12 * power
+}
+
+impl Run {
+    fn new(drive: DifferentialDrive, noise: WheelNoise) -> (Self, Integrator) {
+        let rust = Integrator::new(drive, noise).expect("fit");
+        (Self { drive, noise, seen: vec![], near_power: 0 }, rust)
+    }
+
+    fn saw(&mut self, event: Event, said: Vec<u64>, rust: &Integrator, way: (f64, f64)) {
+        self.seen.push(Seen {
+            way,
+            event,
+            said,
+            delta: rust.motion().delta,
+            covariance: rust.motion().covariance.to_cols_array(),
+            dt: rust.dt(),
+            last: rust.last().copied(),
+        });
+    }
+
+    /// Gives the reading to the Rust, unless it is outside the domain.
+    fn read(&mut self, m: WheelMeasurement, rust: &mut Integrator) {
+        let between = rust.last().and_then(|last| interval(&self.drive, last, &m));
+        let mut way = (0.0, 0.0);
+        if let Some((dt, twist)) = between {
+            let ratio = ratio(dt, &twist);
+            if is_near_power(ratio) {
+                self.near_power += 1;
+                return;
+            }
+            let angle = twist.wz * (dt / f64::from(1u32 << least_halvings(ratio)));
+            if angle.is_finite() && angle.abs() > 4.0 {
+                self.saw(Event::Refused8(m), vec![8], rust, way);
+                return;
+            }
+            way = ((twist.vx * dt).abs().min((2.0 * twist.vx / twist.wz).abs()), (twist.wz * dt).abs().min(PI));
+        }
+        let said = rust.integrate(&m).map_or_else(refusal, |()| vec![0]);
+        let way = if said == [0] { way } else { (0.0, 0.0) };
+        self.saw(Event::Reading(m), said, rust, way);
+    }
+
+    fn restart(&mut self, rust: &mut Integrator) {
+        rust.restart();
+        self.saw(Event::Restart, vec![0], rust, (0.0, 0.0));
+    }
+}
+
+// ---- what is drawn
+
+/// How a run's readings are drawn.
+struct Style {
+    is_ticks: bool,
+    /// The longest time step.
+    step: f64,
+    /// The largest rate, or difference of ticks.
+    rate: f64,
+    tick: f64,
+    /// Whether the two wheels go nearly alike.
+    is_paired: bool,
+    is_tame: bool,
+    /// The one time step of a run at a nominal rate, or 0.
+    nominal: f64,
+}
+
+fn any_drive(random: &mut Random) -> DifferentialDrive {
+    DifferentialDrive { wheel_radius: random.positive(), track_width: random.positive(), ticks_per_revolution: random.positive() }
+}
+
+pub fn domain_run(random: &mut Random, length: u64) -> Run {
+    let drive = any_drive(random);
+    let noise = WheelNoise { wheel_rate: random.any_size(), lateral_velocity: random.any_size() };
+    let style = Style {
+        is_ticks: random.once_in(2),
+        step: random.size(2e-6, (4e6 / length as f64).min(MOST)),
+        rate: random.size(2e-6, MOST),
+        tick: random.size(1.0, 9.3e18),
+        is_paired: random.once_in(3),
+        is_tame: false,
+        nominal: 0.0,
+    };
+    let start = if style.step * length as f64 > 1e6 { -MOST } else { random.any() };
+    drawn(random, drive, noise, style, start, length)
+}
+
+/// A few readings whose time steps, rates and ticks go up to the domain's end.
+fn short_run(random: &mut Random) -> Run {
+    let (drive, tick) = (any_drive(random), random.size(1.0, 9.3e18));
+    let noise = WheelNoise { wheel_rate: random.any_size(), lateral_velocity: random.any_size() };
+    let (is_ticks, is_paired) = (random.once_in(2), random.once_in(2));
+    let style = Style { is_ticks, step: MOST, rate: MOST, tick, is_paired, is_tame: false, nominal: 0.0 };
+    let start = if random.once_in(2) { -MOST } else { random.any() };
+    drawn(random, drive, noise, style, start, 5)
+}
+
+pub fn short_runs(random: &mut Random) -> Vec<Run> {
+    (0..2000).map(|_| short_run(random)).collect()
+}
+
+pub fn tame_run(random: &mut Random, length: u64) -> Run {
+    let drive = DifferentialDrive {
+        wheel_radius: random.between(0.03, 0.3),
+        track_width: random.between(0.2, 1.0),
+        ticks_per_revolution: random.one_of(&[360.0, 512.0, 1024.0, 4096.0, 8191.5]),
+    };
+    let noise = WheelNoise { wheel_rate: random.between(0.0, 0.1), lateral_velocity: random.between(0.0, 0.05) };
+    let nominal = random.one_of(&[0.0, 0.0, 0.0, 0.005, 0.01, 0.02, 0.05, 0.16]);
+    let style =
+        Style { is_ticks: random.once_in(2), step: 0.2, rate: 10.0, tick: 500.0, is_paired: random.once_in(2), is_tame: true, nominal };
+    let start = random.between(1.0, 1000.0);
+    drawn(random, drive, noise, style, start, length)
+}
+
+fn drawn(random: &mut Random, drive: DifferentialDrive, noise: WheelNoise, style: Style, start: f64, length: u64) -> Run {
+    let (mut run, mut rust) = Run::new(drive, noise);
+    let mut time = start;
+    let mut ticks = [random.word() as i64, random.word() as i64];
+    if random.once_in(3) {
+        ticks = [i64::MAX - random.below(1000) as i64, i64::MIN + random.below(1000) as i64];
+    }
+    for _ in 0..length {
+        let next = later(random, time, &style);
+        if next > MOST {
+            break;
+        }
+        ticks = counted(random, ticks, style.tick, style.is_paired);
+        let good = reading(random, next, ticks, &style);
+        match random.below(200) {
+            0..4 => run.restart(&mut rust),
+            4..8 => run.read(WheelMeasurement { valid: false, ..good }, &mut rust),
+            8..12 => run.read(WheelMeasurement { timestamp: time, ..good }, &mut rust),
+            12..16 => run.read(WheelMeasurement { timestamp: earlier(random, time), ..good }, &mut rust),
+            16..19 => run.read(reading(random, next, ticks, &Style { is_ticks: !style.is_ticks, ..style }), &mut rust),
+            19..21 => run.read(not_finite(random, good), &mut rust),
+            _ => {
+                run.read(good, &mut rust);
+                time = next;
+            }
+        }
+    }
+    run
+}
+
+/// A later time, 0 or not below the least size.
+fn later(random: &mut Random, time: f64, style: &Style) -> f64 {
+    let step = match style {
+        Style { nominal, .. } if *nominal > 0.0 => *nominal,
+        Style { is_tame: true, step, .. } => random.between(0.001, *step),
+        Style { step, .. } => random.size(LEAST, *step),
+    };
+    let next = time + step;
+    if next.abs() < LEAST { 0.0 } else { next }
+}
+
+fn earlier(random: &mut Random, time: f64) -> f64 {
+    let before = (time - random.positive()).max(-MOST);
+    if before.abs() < LEAST { 0.0 } else { before }
+}
+
+fn counted(random: &mut Random, ticks: [i64; 2], most: f64, is_paired: bool) -> [i64; 2] {
+    let mut by = || if random.once_in(12) { 0 } else { random.signed(1.0, most) as i64 };
+    let (left, right) = (by(), by());
+    let right = if is_paired { left.wrapping_add(right % 100) } else { right };
+    [ticks[0].wrapping_add(left), ticks[1].wrapping_add(right)]
+}
+
+fn reading(random: &mut Random, time: f64, ticks: [i64; 2], style: &Style) -> WheelMeasurement {
+    if style.is_ticks {
+        return WheelMeasurement::ticks(time, ticks);
+    }
+    let mut rate = || {
+        if random.once_in(12) {
+            0.0
+        } else if style.is_tame {
+            random.between(-style.rate, style.rate)
+        } else {
+            random.signed(LEAST, style.rate)
+        }
+    };
+    let (left, right) = (rate(), rate());
+    WheelMeasurement::angular_velocity(time, [left, if style.is_paired { left } else { right }])
+}
+
+/// Outside the domain, but the refusal is the Rust's own.
+fn not_finite(random: &mut Random, m: WheelMeasurement) -> WheelMeasurement {
+    let x = random.one_of(&[f64::NAN, f64::INFINITY, f64::NEG_INFINITY]);
+    match m.reading {
+        WheelReading::AngularVelocity([left, _]) if random.once_in(2) => WheelMeasurement::angular_velocity(m.timestamp, [left, x]),
+        _ => WheelMeasurement { timestamp: x, ..m },
+    }
+}
+
+// ---- ours
+
+pub fn reading_words(m: &WheelMeasurement, ticks_kind: u64) -> [u64; 5] {
+    let valid = u64::from(m.valid);
+    match m.reading {
+        WheelReading::Ticks([l, r]) => [ticks_kind, valid, m.timestamp.to_bits(), l as u64, r as u64],
+        WheelReading::AngularVelocity([l, r]) => [ticks_kind + 1, valid, m.timestamp.to_bits(), l.to_bits(), r.to_bits()],
+    }
+}
+
+pub fn parameter_words(kind: u64, drive: &DifferentialDrive, noise: &WheelNoise) -> [u64; 6] {
+    [
+        kind,
+        drive.wheel_radius.to_bits(),
+        drive.track_width.to_bits(),
+        drive.ticks_per_revolution.to_bits(),
+        noise.wheel_rate.to_bits(),
+        noise.lateral_velocity.to_bits(),
+    ]
+}
+
+impl Run {
+    fn record(&self, records: &mut Records) {
+        records.sixteen(&parameter_words(1, &self.drive, &self.noise));
+        for s in &self.seen {
+            match &s.event {
+                Event::Reading(m) | Event::Refused8(m) => records.sixteen(&reading_words(m, 3)),
+                Event::Restart => records.sixteen(&[5]),
+            }
+        }
+    }
+
+    /// Judges the run by the lines of ours, and gives what is left of them.
+    fn judge<'a>(&self, group: &mut Group, lines: &'a [String]) -> &'a [String] {
+        let mut sizes = Sizes::default();
+        for (s, text) in self.seen.iter().zip(&lines[2..]) {
+            let line = Line::new(text);
+            group.parts.1 += 1;
+            match s.event {
+                Event::Restart => sizes = Sizes::default(),
+                Event::Refused8(_) => group.leave_out("readings refused by the added 8, not given to the Rust"),
+                Event::Reading(_) => {}
+            }
+            group.same("refusals and their times", line.refusal(), s.said.clone());
+            group.tally(s.event == Event::Restart, s.said[0]);
+            group.same_floats("dt", &line.after("dt", 1), &[s.dt]);
+            group.same("last reading", last_of(&line), s.last.map(|m| reading_words(&m, 0).to_vec()));
+            let delta: [f64; 3] = floats(&line.after("motion", 3));
+            let covariance: [f64; 9] = floats(&line.after("covariance", 9));
+            sizes.reach(s);
+            group.near("x and y", &delta[..2], &s.delta[..2], sizes.place);
+            group.near_heading(delta[2], s.delta[2], sizes.heading);
+            group.near("covariance", &covariance, &s.covariance, sizes.covariance);
+        }
+        for _ in 0..self.near_power {
+            group.leave_out("readings whose ratio is within 1e-12 above a power of two, given to neither");
+        }
+        group.cases += 1;
+        &lines[2 + self.seen.len()..]
+    }
+}
+
+/// The largest sizes reached since the start or the last restart, by the Rust, inside an interval too: after whole turns a heading or a place may
+/// be back at 0.
+#[derive(Default)]
+pub struct Sizes {
+    pub place: f64,
+    pub heading: f64,
+    pub covariance: f64,
+}
+
+impl Sizes {
+    pub fn reach(&mut self, s: &Seen) {
+        self.place = larger(self.place, larger(s.way.0, largest(&s.delta[..2])));
+        self.heading = larger(self.heading, larger(s.way.1, s.delta[2].abs()));
+        self.covariance = larger(self.covariance, largest(&s.covariance));
+    }
+}
+
+fn last_of(line: &Line) -> Option<Vec<u64>> {
+    let kind = if line.has("ticks") { 0 } else { 1 };
+    let words = line.after(if kind == 0 { "ticks" } else { "rates" }, 3);
+    (words.len() == 3).then(|| [vec![kind, 1], words].concat())
+}
+
+pub fn runs(ours: &Ours, name: &'static str, runs: &[Run]) -> Group {
+    let mut records = Records::default();
+    for run in runs {
+        run.record(&mut records);
+    }
+    let lines = ours.lines("wheel_cases", &records, runs.iter().map(|r| 2 + r.seen.len()).sum());
+    let mut group = Group::new(name, "readings and restarts");
+    let steps = runs.iter().flat_map(|r| r.seen.windows(2)).map(|w| w[1].dt - w[0].dt).filter(|step| *step > 0.0);
+    let (least, most) = steps.fold((f64::INFINITY, 0.0), |(a, b), step| (step.min(a), step.max(b)));
+    let longest = runs.iter().map(|r| r.seen.len()).max().unwrap_or(0);
+    group.note = format!("the longest run {longest}, time steps accepted from {least:.1e} to {most:.1e} s");
+    let mut rest = &lines[..];
+    for run in runs {
+        rest = run.judge(&mut group, rest);
+    }
+    group
+}
+
+pub fn domain_runs(random: &mut Random) -> Vec<Run> {
+    let length = |random: &mut Random| match random.below(4) {
+        0 => 1 + random.below(10),
+        1 => 10 + random.below(90),
+        2 => 100 + random.below(901),
+        _ => 1000,
+    };
+    (0..200)
+        .map(|_| {
+            let n = length(random);
+            domain_run(random, n)
+        })
+        .collect()
+}
+
+pub fn tame_runs(random: &mut Random) -> Vec<Run> {
+    (0..40).map(|_| tame_run(random, 1000)).collect()
+}
+
+/// The hardest: every interval turns as far as the refusal 8 allows, or nearly, and the same each time, so that what 20 doublings do to a heading
+/// adds up over 1,000 readings.
+pub fn spinning_runs(random: &mut Random) -> Vec<Run> {
+    (0..40).map(|_| spinning_run(random)).collect()
+}
+
+fn spinning_run(random: &mut Random) -> Run {
+    let drive = DifferentialDrive { wheel_radius: random.size(1e-3, 1e3), track_width: 1.0, ticks_per_revolution: 1.0 };
+    let noise = WheelNoise { wheel_rate: random.any_size(), lateral_velocity: random.any_size() };
+    let step = random.between(16.0, 900.0);
+    let apart = random.between(1.0, 4.0) * f64::from(1 << 20) / step / drive.wheel_radius;
+    let left = random.between(-1.0, 1.0) * apart;
+    let (mut run, mut rust) = Run::new(drive, noise);
+    let is_even = random.once_in(2);
+    for i in 0..1000 {
+        let time = if is_even { f64::from(i) * step.floor() } else { f64::from(i) * step };
+        let rates = [left, left + apart].map(|w| w.clamp(-MOST, MOST));
+        run.read(WheelMeasurement::angular_velocity(time, rates), &mut rust);
+    }
+    run
+}
+
+/// Intervals of whole turns: one tick is a turn of the wheel, and the radius a whole part or multiple of the track.
+pub fn turning_runs(random: &mut Random) -> Vec<Run> {
+    (0..40).map(|_| turning_run(random)).collect()
+}
+
+fn turning_run(random: &mut Random) -> Run {
+    let track_width = random.one_of(&[0.25, 0.5, 1.0, 3.0, 0.7]);
+    let drive = DifferentialDrive { wheel_radius: random.one_of(&[0.5, 1.0, 2.0]) * track_width, track_width, ticks_per_revolution: 1.0 };
+    let noise = WheelNoise { wheel_rate: random.any_size(), lateral_velocity: random.any_size() };
+    let step = random.between(0.01, 900.0);
+    let mut ticks = [random.word() as i64, random.word() as i64];
+    let (mut run, mut rust) = Run::new(drive, noise);
+    for i in 0..200 {
+        run.read(WheelMeasurement::ticks(f64::from(i) * step, ticks), &mut rust);
+        ticks = [ticks[0].wrapping_add(random.below(3) as i64), ticks[1].wrapping_add(random.below(1000) as i64)];
+    }
+    run
+}
+
+// ---- asked on their own
+
+/// A drive, two rates, two differences of ticks and a time.
+pub struct Asked {
+    pub drive: DifferentialDrive,
+    pub rates: [f64; 2],
+    pub ticks: [i64; 2],
+    pub dt: f64,
+}
+
+impl Asked {
+    pub fn draw(random: &mut Random) -> Self {
+        let tick = random.size(1.0, 9.3e18);
+        Self {
+            drive: any_drive(random),
+            rates: [random.any(), random.any()],
+            ticks: counted(random, [0, 0], tick, false),
+            dt: random.positive(),
+        }
+    }
+}
+
+pub fn asked(ours: &Ours, random: &mut Random) -> Group {
+    let mut group = Group::new("twists, rates from ticks and Jacobians, asked on their own; the default noise", "");
+    let cases: Vec<_> = (0..10_000).map(|_| Asked::draw(random)).collect();
+    let mut records = Records::default();
+    for a in &cases {
+        records.sixteen(&parameter_words(6, &a.drive, &WheelNoise::default()));
+        records.sixteen(&[12, a.rates[0].to_bits(), a.rates[1].to_bits()]);
+        records.sixteen(&[13, a.ticks[0] as u64, a.ticks[1] as u64, a.dt.to_bits()]);
+        records.sixteen(&[14]);
+    }
+    records.sixteen(&[2, 1f64.to_bits(), 1f64.to_bits(), 1f64.to_bits()]);
+    let lines = ours.lines("wheel_cases", &records, 4 * cases.len() + 2);
+    let noise = WheelNoise::default();
+    group.same_floats("default noise", &Line::new(&lines[lines.len() - 1]).after("noise", 2), &[noise.wheel_rate, noise.lateral_velocity]);
+    for (a, four) in cases.iter().zip(lines.chunks(4)) {
+        let given: Vec<_> = four.iter().map(|l| Line::new(l).after("gives", 6)).collect();
+        let twist = a.drive.twist(a.rates);
+        let [left, right] = a.drive.twist_jacobian(a.rates);
+        group.same_floats("twist", &given[1], &[twist.vx, twist.vy, twist.wz]);
+        group.same_floats("rates from ticks", &given[2], &a.drive.wheel_rates_from_ticks(a.ticks, a.dt));
+        group.same_floats("Jacobian", &given[3], &[left.to_array(), right.to_array()].concat());
+        group.cases += 1;
+    }
+    group
+}
+
+// ---- single compositions
+
+/// A symmetric matrix: half of the time L·Lᵀ, otherwise any.
+pub fn covariance(random: &mut Random) -> [f64; 9] {
+    let e = if random.once_in(2) {
+        let scale = random.size(1e-3, 1e3);
+        let mut l = [0.0; 6];
+        l.fill_with(|| random.between(-scale, scale));
+        let [a, b, c, d, e, f] = l;
+        [a * a, a * b, b * b + c * c, a * d, b * d + c * e, d * d + e * e + f * f]
+    } else {
+        std::array::from_fn(|_| random.any())
+    };
+    [e[0], e[1], e[3], e[1], e[2], e[4], e[3], e[4], e[5]].map(|x| if x.abs() < LEAST { 0.0 } else { x.clamp(-MOST, MOST) })
+}
+
+pub fn motion(random: &mut Random) -> PlanarMotion {
+    let heading = match random.below(4) {
+        0 => random.between(-4.0, 4.0),
+        1 => random.signed(LEAST, 4.0),
+        2 => random.one_of(&[0.0, 2.0, -2.0, 4.0, -4.0, PI, -PI, std::f64::consts::FRAC_PI_2]),
+        _ => random.between(-1.0, 1.0),
+    };
+    let heading = if heading.abs() < LEAST { 0.0 } else { heading };
+    PlanarMotion { delta: [random.any(), random.any(), heading], covariance: Mat3F64::from_cols_array(&covariance(random)) }
+}
+
+/// The sizes that a composition's answer is judged by: of its inputs and terms (reading 17).
+pub fn term_sizes(a: &PlanarMotion, b: &PlanarMotion) -> (f64, f64, f64) {
+    let place = larger(largest(&a.delta[..2]), largest(&b.delta[..2]));
+    let heading = larger(a.delta[2].abs(), b.delta[2].abs());
+    let lever = 1.0 + largest(&b.delta[..2]);
+    let first = largest(&a.covariance.to_cols_array()) * lever * lever;
+    (place, heading, larger(first, largest(&b.covariance.to_cols_array())))
+}
+
+fn motion_words(m: &PlanarMotion) -> Vec<u64> {
+    m.delta.iter().chain(&m.covariance.to_cols_array()).map(|x| x.to_bits()).collect()
+}
+
+pub fn compositions(ours: &Ours, random: &mut Random) -> Group {
+    let mut group = Group::new("single compositions of planar motions, by the size of inputs and terms", "");
+    let pairs: Vec<_> = (0..10_000).map(|_| (motion(random), motion(random))).collect();
+    let mut records = Records::default();
+    for (a, b) in &pairs {
+        let (a, b) = (motion_words(a), motion_words(b));
+        records.sixteen(&[&[7], &a[..3], &[0]].concat());
+        records.sixteen(&[&[8, 0, 0, 0], &a[3..]].concat());
+        records.sixteen(&[&[15], &b[..]].concat());
+    }
+    let lines = ours.lines("wheel_cases", &records, 3 * pairs.len());
+    for ((a, b), three) in pairs.iter().zip(lines.chunks(3)) {
+        let line = Line::new(&three[2]);
+        let rust = a.compose(b);
+        let (place, heading, size) = term_sizes(a, b);
+        let delta: [f64; 3] = floats(&line.after("motion", 3));
+        let cov: [f64; 9] = floats(&line.after("covariance", 9));
+        group.same("refusals", line.refusal(), vec![0]);
+        group.near("x and y", &delta[..2], &rust.delta[..2], place);
+        group.near_heading(delta[2], rust.delta[2], heading);
+        group.near("covariance", &cov, &rust.covariance.to_cols_array(), size);
+        group.cases += 1;
+    }
+    group
+}
