@@ -1,7 +1,5 @@
 -- 01, Refusal numbers: the number of every case of an inertial answer.
-use Prim.Native.Nat.{ℕ}
 use mathlib.Core.Bool.{Bool, true, false}
-use mathlib.Core.List.{List, []}
 use Rattle.number.specs.Said.{Said, gives, refused, refusal, Told}
 use Rattle.imu.specs.declared.answer.Outcome.{Outcome}
 use Rattle.imu.specs.declared.answer.Outcome.the-variants as O

@@ -1,10 +1,10 @@
 -- The constants of 01, each by its bits, and which fraction each is nearest to.
-use Prim.Native.Nat.{ℕ, _*_, _-_, _^_}
+use Prim.Native.Nat.{_*_, _-_, _^_}
 use mathlib.Core.Path.{_≡_, refl}
 use lib.Ieee as Ieee
 use lib.Ieee.{Float, inf, binary64, ofBits}
 use mathlib.Core.Bool.{false}
-use Rattle.number.specs.Float.{nearestTo, _⊕_, _⊗_, _⊘_}
+use Rattle.number.specs.Float.{nearestTo}
 
 abbrev pub zero : Float
 zero = ofBits binary64 0

@@ -1,7 +1,7 @@
 -- The words of every definition: IEEE 754's operations on f64 as infix signs, the tests, the choice between answers.
 -- An f64 is a value of `lib.Ieee`: `nan`, `inf s`, or `fin s m e`, which is m · 2^e, negative where s is true.
 use Prim.Native.Nat.{ℕ}
-use mathlib.Core.Bool.{Bool, true, false, cond, _||_}
+use mathlib.Core.Bool.{Bool, false, cond, _||_}
 use lib.Ieee as Ieee
 use lib.Ieee.{Float, nan, inf, fin, binary64}
 pub use lib.Ieee.Scale.{finite}

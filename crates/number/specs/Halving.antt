@@ -1,7 +1,7 @@
 -- 01, The wheel step: "At most 1+1e-9: 0 halvings. Otherwise the least k with 2^k not below the ratio, never more than 20; infinite gives 20, NaN 0."
 use Prim.Native.Nat.{ℕ, zero, suc, _≤_, _<_, _^_}
 use mathlib.Core.Path.{_≡_}
-use mathlib.Core.Bool.{Bool, true, false, not}
+use mathlib.Core.Bool.{true, false, not}
 use lib.IntN.{pos}
 use lib.Ieee as Ieee
 use lib.Ieee.{Float, binary64}

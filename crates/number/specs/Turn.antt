@@ -4,7 +4,7 @@ use Prim.Native.Nat.{ℕ, zero, suc, _*_}
 use mathlib.Core.Bool.{Bool, not, _&&_}
 use mathlib.Core.List.{List, [], _∷_}
 use lib.ListN.{getD}
-use lib.Ieee.{Float, nan, binary64, ofBits}
+use lib.Ieee.{Float, binary64, ofBits}
 use Rattle.number.specs.Float.{_⊖_, _⊗_, _⊘_, −_, _<ᶠ_, _≤ᶠ_, _when_else_, finite, size}
 use Rattle.number.specs.Constants.{one, c2, c3, c4, c5, c2^-5, PI, H, L}
 use Rattle.number.specs.Constants.{zero as +0}

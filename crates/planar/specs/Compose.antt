@@ -1,5 +1,5 @@
 -- 01, Composing planar motions: "Formulas as in `compose`."
-use mathlib.Core.Bool.{Bool, not, _&&_, _||_}
+use mathlib.Core.Bool.{not, _&&_, _||_}
 use mathlib.Core.List.{List, [], _∷_}
 use lib.Ieee.{Float}
 use Rattle.number.specs.Float.{_⊕_, _⊖_, −_, _<ᶠ_, _≤ᶠ_, _when_else_}

@@ -1,9 +1,9 @@
 -- A planar motion: three numbers (dx, dy, dθ) and the nine numbers of their covariance, column by column.
 use mathlib.Core.Bool.{Bool, _&&_}
-use mathlib.Core.List.{List, [], _∷_}
+use mathlib.Core.List.{[], _∷_}
 use lib.Ieee.{Float}
 use Rattle.number.specs.Constants.{zero as +0}
-use Rattle.mat3.specs.Matrix.{coordinate, vector, zeros, finiteVector, finiteMatrix}
+use Rattle.mat3.specs.Matrix.{coordinate, zeros, finiteVector, finiteMatrix}
 use Rattle.planar.specs.declared.motion.PlanarMotion.{PlanarMotion}
 
 abbrev pub dx : PlanarMotion → Float

@@ -2,9 +2,9 @@
 -- code, for that function answers what the definition says.
 use Prim.Native.Nat.{ℕ, _+_, _-_, _^_}
 use mathlib.Core.Path.{_≡_}
-use mathlib.Core.List.{List, [], _∷_}
-use lib.IntN.{ℤ, pos, negsuc}
-use lib.Ieee.{Float, binary64, ofBits}
+use mathlib.Core.List.{[], _∷_}
+use lib.IntN.{pos, negsuc}
+use lib.Ieee.{Float}
 use Rattle.number.specs.Float.{−_, nearestTo}
 use Rattle.number.specs.Constants.{half, one, c2}
 use Rattle.number.specs.Constants.{zero as +0}

@@ -1,6 +1,6 @@
 -- A text's bytes: each of its characters by its code, which for the characters used here is ASCII's.
 use Prim.Native.Nat.{ℕ}
-use Prim.Native.Char.{Char, code}
+use Prim.Native.Char.{code}
 use Prim.Native.String.{String, [] as empty, _∷_ as _before_}
 use mathlib.Core.List.{List, [], _∷_}
 

@@ -1,6 +1,6 @@
 -- 01, The wheel step: "Twist", "Rate from ticks", "Rate from rates", and "asked for on their own".
 use mathlib.Core.Bool.{Bool, not, _&&_}
-use mathlib.Core.List.{List, [], _∷_}
+use mathlib.Core.List.{[], _∷_}
 use lib.IntN.{ℤ}
 use lib.Ieee.{Float}
 use Rattle.number.specs.Float.{_⊕_, _⊖_, _⊗_, _⊘_, −_, _<ᶠ_, _=ᶠ_, _when_else_, finite}

@@ -6,8 +6,7 @@ use Rattle.number.specs.Said.{Told, accepts, refuses}
 use Rattle.planar.specs.Motion.{identity}
 use Rattle.wheel.specs.declared.drive.DifferentialDrive.{DifferentialDrive}
 use Rattle.wheel.specs.declared.noise.WheelNoise.{WheelNoise}
-use Rattle.wheel.specs.declared.preintegration.Last.{Last}
-use Rattle.wheel.specs.declared.preintegration.Last.the-variants.{Nothing, At}
+use Rattle.wheel.specs.declared.preintegration.Last.the-variants.{Nothing}
 use Rattle.wheel.specs.declared.preintegration.WheelPreintegration.{WheelPreintegration}
 use Rattle.wheel.specs.Drive.{fitDrive}
 use Rattle.wheel.specs.Noise.{fitNoise}

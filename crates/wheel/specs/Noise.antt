@@ -3,7 +3,6 @@ use mathlib.Core.Bool.{Bool, _&&_}
 use mathlib.Core.List.{List}
 use lib.Ieee.{Float}
 use Rattle.number.specs.Float.{_⊗_}
-use Rattle.number.specs.Constants.{c0·05, c0·01}
 use Rattle.number.specs.Constants.{zero as +0}
 use Rattle.number.specs.Fit.{finiteNotNegative}
 use Rattle.mat3.specs.Matrix.{rows, diagonal, product, transpose, sum, scaled}

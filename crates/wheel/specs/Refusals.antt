@@ -1,5 +1,5 @@
 -- 01, Refusal numbers: the number and the values of every case of an answer.
-use mathlib.Core.List.{List, [], _∷_}
+use mathlib.Core.List.{[], _∷_}
 use Rattle.number.specs.Said.{Said, gives, refused, refusal, Told}
 use Rattle.wheel.specs.declared.refusal.Refusal.{Refusal}
 use Rattle.wheel.specs.declared.refusal.Refusal.the-variants as R

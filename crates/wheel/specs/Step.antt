@@ -1,13 +1,13 @@
 -- 01, The wheel step.
 use Prim.Native.Nat.{ℕ, zero, suc}
-use mathlib.Core.Bool.{Bool, not, _&&_, _||_}
-use mathlib.Core.List.{List, [], _∷_}
+use mathlib.Core.Bool.{not, _&&_, _||_}
+use mathlib.Core.List.{[], _∷_}
 use lib.Ieee.{Float}
 use Rattle.number.specs.Float.{_⊕_, _⊖_, _⊗_, _⊘_, _<ᶠ_, _=ᶠ_, _when_else_, finite, size, larger}
 use Rattle.number.specs.Constants.{c0·01, c0·02}
 use Rattle.number.specs.Constants.{zero as +0}
 use Rattle.number.specs.Halving.{power, halvingCount}
-use Rattle.number.specs.Said.{Said, gives, refused, refusal, Told, accepts, refuses, refusesWith}
+use Rattle.number.specs.Said.{Said, gives, refusal, Told, accepts, refuses, refusesWith}
 use Rattle.number.specs.Turn.{aboveFour}
 use Rattle.mat3.specs.Matrix.{scaled}
 use Rattle.planar.specs.Motion.{heading, finiteMotion}
@@ -16,7 +16,6 @@ use Rattle.planar.specs.Arc.{incrementOf}
 use Rattle.planar.specs.declared.motion.PlanarMotion.{PlanarMotion}
 use Rattle.wheel.specs.declared.drive.BodyTwist.{BodyTwist}
 use Rattle.wheel.specs.declared.drive.DifferentialDrive.{DifferentialDrive}
-use Rattle.wheel.specs.declared.drive.WheelRates.{WheelRates}
 use Rattle.wheel.specs.declared.noise.WheelNoise.{WheelNoise}
 use Rattle.wheel.specs.declared.reading.WheelMeasurement.{WheelMeasurement}
 use Rattle.wheel.specs.declared.preintegration.Last.{Last}

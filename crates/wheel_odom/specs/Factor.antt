@@ -1,7 +1,7 @@
 -- 01, Information of wheel factors: the factor. `is_valid` follows the file.
 use Prim.Native.Nat.{ℕ}
 use mathlib.Core.Bool.{Bool, true, false, not, _&&_}
-use mathlib.Core.List.{List, [], _∷_}
+use mathlib.Core.List.{[], _∷_}
 use lib.Dec.{eqb}
 use Rattle.number.specs.Float.{_when_else_}
 use Rattle.number.specs.Constants.{zero as +0}

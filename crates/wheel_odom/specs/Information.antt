@@ -1,5 +1,5 @@
 -- 01, Information of wheel factors: the order of its checks, and the thirty-six numbers, column by column.
-use mathlib.Core.Bool.{Bool, true, not, _&&_, _||_}
+use mathlib.Core.Bool.{Bool, not, _&&_}
 use mathlib.Core.List.{List, [], _∷_}
 use lib.ListN.{replicate}
 use lib.Ieee.{Float}

@@ -1,6 +1,6 @@
 -- 01, Information of wheel factors: the measurement, its default sigmas, its composition.
 use mathlib.Core.Bool.{Bool, not, _&&_, _||_}
-use mathlib.Core.List.{List, []}
+use mathlib.Core.List.{List}
 use lib.Ieee.{Float}
 use Rattle.number.specs.Float.{_⊕_, _⊗_, _when_else_, finite}
 use Rattle.number.specs.Constants.{c0·01}

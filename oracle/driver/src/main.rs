@@ -3,6 +3,7 @@ mod differences;
 mod factors;
 mod inertial;
 mod mapping;
+mod numbers;
 mod ours;
 mod random;
 mod report;
@@ -26,6 +27,7 @@ fn main() {
 fn compare(ours: &Ours, seed: u64) {
     let random = |group: u64| Random(1000 * seed + group);
     let mut groups = vec![
+        numbers::leaves(ours, &mut random(17)),
         wheel::runs(ours, "wheel runs over the whole domain", &wheel::domain_runs(&mut random(1))),
         wheel::runs(ours, "wheel runs of a few readings, up to the domain's end", &wheel::short_runs(&mut random(16))),
         wheel::runs(ours, "tame wheel walks", &wheel::tame_runs(&mut random(2))),
