@@ -1,4 +1,4 @@
-//! Times each function of the proved library against the Rust on the same inputs: the best of several rounds, in nanoseconds for one call or step.
+//! Times each function of the proved library against the Rust on the same inputs: the best of two hundred rounds, in nanoseconds for one call or step.
 //! Before a line is timed, both sides' answers are compared, so that neither is timed at doing nothing.
 mod mapping;
 
@@ -20,29 +20,34 @@ unsafe extern "C" {
     fn latchfern_information(heading: f64, cxx: f64, cxy: f64, cxw: f64, cyy: f64, cyw: f64, cww: f64) -> f64;
 }
 
-const ROUNDS: usize = 15;
+const ROUNDS: usize = 200;
 
-/// The shortest of some rounds, divided by the steps of one.
-fn best(steps: usize, mut round: impl FnMut()) -> f64 {
-    (0..ROUNDS)
-        .map(|_| {
-            let start = Instant::now();
-            round();
-            start.elapsed().as_secs_f64() * 1e9 / steps as f64
-        })
-        .fold(f64::INFINITY, f64::min)
+/// The shortest round of each side, divided by the steps of one. The rounds alternate, so that a machine that slows down for a while does so for both.
+fn best(steps: usize, mut ours: impl FnMut(), mut rust: impl FnMut()) -> (f64, f64) {
+    let mut shortest = (f64::INFINITY, f64::INFINITY);
+    for _ in 0..ROUNDS {
+        shortest.0 = shortest.0.min(time(&mut ours));
+        shortest.1 = shortest.1.min(time(&mut rust));
+    }
+    (shortest.0 / steps as f64, shortest.1 / steps as f64)
+}
+
+fn time(round: &mut impl FnMut()) -> f64 {
+    let start = Instant::now();
+    round();
+    start.elapsed().as_secs_f64() * 1e9
 }
 
 /// A thousand calls, for each of which the answer is looked at.
-fn thousand<T>(mut call: impl FnMut(usize) -> T) -> f64 {
-    best(1000, || {
+fn thousand<T>(mut call: impl FnMut(usize) -> T) -> impl FnMut() {
+    move || {
         for i in 0..1000 {
             black_box(call(black_box(i)));
         }
-    })
+    }
 }
 
-fn line(name: &str, ours: f64, rust: f64) {
+fn line(name: &str, (ours, rust): (f64, f64)) {
     println!("| {name} | {ours:.1} | {rust:.1} | {:.2} |", ours / rust);
 }
 
@@ -92,13 +97,16 @@ fn wheel_steps(name: &str, hertz: f64) {
     let w = walk(1000, hertz);
     let ours = || unsafe { latchfern_wheel_run(black_box(w.bytes.as_ptr()), w.bytes.len()) };
     near(ours(), rust_run(&w.readings));
-    let a = best(1000, || {
-        black_box(ours());
-    });
-    let b = best(1000, || {
-        black_box(rust_run(black_box(&w.readings)));
-    });
-    line(name, a, b);
+    let times = best(
+        1000,
+        || {
+            black_box(ours());
+        },
+        || {
+            black_box(rust_run(black_box(&w.readings)));
+        },
+    );
+    line(name, times);
 }
 
 // ---- the largest log. The Rust has no replay: what stands beside ours reads the same bytes, runs the Rust's integrator and writes the same lines.
@@ -158,13 +166,16 @@ fn replay() {
     let log = log(2518);
     let ours = || unsafe { latchfern_replay(black_box(log.as_ptr()), log.len()) };
     assert_eq!(ours(), rust_replay(&log));
-    let a = best(1, || {
-        black_box(ours());
-    });
-    let b = best(1, || {
-        black_box(rust_replay(black_box(&log)));
-    });
-    line("the replay of a log of 2,518 readings", a, b);
+    let times = best(
+        1,
+        || {
+            black_box(ours());
+        },
+        || {
+            black_box(rust_replay(black_box(&log)));
+        },
+    );
+    line("the replay of a log of 2,518 readings", times);
 }
 
 // ---- inertial samples
@@ -199,13 +210,16 @@ fn inertial_step() {
     let ms = measurements(&flat);
     let ours = || unsafe { latchfern_inertial_batch(black_box(flat.as_ptr()), flat.len()) };
     near(ours(), rust_batch(&ms));
-    let a = best(1000, || {
-        black_box(ours());
-    });
-    let b = best(1000, || {
-        black_box(rust_batch(black_box(&ms)));
-    });
-    line("an inertial step", a, b);
+    let times = best(
+        1000,
+        || {
+            black_box(ours());
+        },
+        || {
+            black_box(rust_batch(black_box(&ms)));
+        },
+    );
+    line("an inertial step", times);
 }
 
 fn ordering() {
@@ -216,17 +230,22 @@ fn ordering() {
     }
     let ms = measurements(&flat);
     let mut order = vec![0usize; 4096];
-    let a = best(1, || unsafe { latchfern_order(black_box(flat.as_ptr()), flat.len(), 0.0, 100.0, order.as_mut_ptr(), order.len()) });
+    let ours = |order: &mut [usize]| unsafe { latchfern_order(black_box(flat.as_ptr()), flat.len(), 0.0, 100.0, order.as_mut_ptr(), order.len()) };
+    ours(&mut order);
     let rust = || {
         let mut sorted: Vec<&ImuMeasurement> = ms.iter().filter(|m| m.timestamp >= 0.0 && m.timestamp <= 100.0).collect();
         sorted.sort_by(|a, b| a.timestamp.total_cmp(&b.timestamp));
         sorted
     };
     assert!(order.iter().zip(rust()).all(|(&i, m)| std::ptr::eq(&ms[i], m)));
-    let b = best(1, || {
-        black_box(rust());
-    });
-    line("an ordering of 4,096 samples", a, b);
+    let times = best(
+        1,
+        || ours(&mut order),
+        || {
+            black_box(rust());
+        },
+    );
+    line("an ordering of 4,096 samples", times);
 }
 
 // ---- small calls, a thousand at a time
@@ -242,29 +261,22 @@ fn information() {
         m.information().unwrap()
     };
     near(ours(3), rust(3)[0][0]);
-    let a = thousand(ours);
-    let b = thousand(rust);
-    line("an `information`", a, b);
+    line("an `information`", best(1000, thousand(ours), thousand(rust)));
 }
 
 fn numbers() {
     let x = |i: usize| 0.001 + 0.003 * i as f64;
     near(unsafe { latchfern_root(x(5)) }, x(5).sqrt());
-    let a = thousand(|i| unsafe { latchfern_root(x(i)) });
-    let b = thousand(|i| x(i).sqrt());
-    line("a root", a, b);
+    line("a root", best(1000, thousand(|i| unsafe { latchfern_root(x(i)) }), thousand(|i| x(i).sqrt())));
     let rust = |x: f64| {
         let (s, c) = x.sin_cos();
         s + c
     };
     near(unsafe { latchfern_sine_plus_cosine(x(5)) }, rust(x(5)));
-    let a = thousand(|i| unsafe { latchfern_sine_plus_cosine(x(i)) });
-    let b = thousand(|i| rust(x(i)));
-    line("a sine and cosine, up to 3 rad", a, b);
+    let ours = |x: f64| unsafe { latchfern_sine_plus_cosine(x) };
+    line("a sine and cosine, up to 3 rad", best(1000, thousand(|i| ours(x(i))), thousand(|i| rust(x(i)))));
     let y = |i: usize| 0.00003 * i as f64;
-    let a = thousand(|i| unsafe { latchfern_sine_plus_cosine(y(i)) });
-    let b = thousand(|i| rust(y(i)));
-    line("a sine and cosine, up to 0.03 rad", a, b);
+    line("a sine and cosine, up to 0.03 rad", best(1000, thousand(|i| ours(y(i))), thousand(|i| rust(y(i)))));
 }
 
 fn main() {

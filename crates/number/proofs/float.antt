@@ -7,5 +7,6 @@ pub mod Order
 pub mod Parts
 pub mod Round
 pub mod SameNumber
+pub mod Signs
 pub mod Sizes
 pub mod Zero

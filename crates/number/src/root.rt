@@ -14,12 +14,22 @@ pub enum Root {
     NonFinite,
 }
 
-// The largest s with s * s <= m, by Newton's iteration from above.
+// Near the root of m, by a parabola: within some half a hundredth. Nothing but its range is promised, since the steps that follow go from any guess.
+fn first_guess(m: u64) -> u64
+    requires { ⌜ (2 ^ 52 ≤ m) × (m + 2 ≤ 2 ^ 54) ⌝ }
+    ensures { λ s. ⌜ (2 ^ 26 ≤ s) × (s ≤ 2 ^ 28) ⌝ }
+{
+    let short = 107_000 - m / 0x40_0000_0000;
+    151_000_000 - short * short * 167 / 16384
+}
+
+// The largest s with s * s <= m, by Newton's iteration: the first step leads to or above the root, and the others come down to it.
 fn half_root(m: u64) -> u64
     requires { ⌜ (2 ^ 52 ≤ m) × (m + 2 ≤ 2 ^ 54) ⌝ }
     ensures { λ s. ⌜ Floor m s ⌝ }
 {
-    let mut s: u64 = (0x400_0000 + m / 0x400_0000) / 2;
+    let guess = first_guess(m);
+    let mut s = (guess + m / guess) / 2;
     while m < s * s {
         s = (s + m / s) / 2;
     }

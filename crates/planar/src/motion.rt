@@ -83,8 +83,8 @@ impl PlanarMotion {
         let ty = t[1];
         let delta = [a[0] + tx, a[1] + ty, wrapped(a[2] + b[2])];
         let covariance = symmetrized(
-            carried(first_jacobian(tx, ty), first),
-            carried(turn, second),
+            carried_by_shift(tx, ty, first),
+            carried_by_turn(turn, second),
         );
         PlanarMotion { delta, covariance }
     }
@@ -117,7 +117,23 @@ fn first_jacobian(tx: f64, ty: f64) -> [f64; 9]
     [1.0, 0.0, 0.0, 0.0, 1.0, 0.0, -ty, tx, 1.0]
 }
 
-// The covariance s carried by the Jacobian j: j · s · jᵀ, left to right.
+// The covariance s of the first motion, carried by its Jacobian j: j · s · jᵀ, left to right. Each way of carrying has a function of its own, since a
+// function with one caller is compiled in its place, where the Jacobian's ones are known.
+fn carried_by_shift(tx: f64, ty: f64, s: [f64; 9]) -> [f64; 9]
+    ensures { λ r. ⌜ r ≡ carriedOf (firstJacobian tx ty) s ⌝ }
+{
+    let j = first_jacobian(tx, ty);
+    mat3::product(mat3::product(j, s), mat3::transpose(j))
+}
+
+// The covariance s of the second motion, carried by the turn y: y · s · yᵀ, left to right.
+fn carried_by_turn(y: [f64; 9], s: [f64; 9]) -> [f64; 9]
+    ensures { λ r. ⌜ r ≡ carriedOf y s ⌝ }
+{
+    mat3::product(mat3::product(y, s), mat3::transpose(y))
+}
+
+// The covariance s of a twist increment, carried by the exponential's Jacobian j: j · s · jᵀ, left to right.
 pub fn carried(j: [f64; 9], s: [f64; 9]) -> [f64; 9]
     ensures { λ r. ⌜ r ≡ carriedOf j s ⌝ }
 {

@@ -83,12 +83,16 @@ fn refused(outcome: Information) -> Informed
     }
 }
 
-// |cij − cji| is not above 1e-9·√|cii·cjj|.
+// |cij − cji| is not above 1e-9·√|cii·cjj|. No tolerance is below 0, so an exact symmetry, as composing leaves it, needs no root.
 fn is_near_symmetric(cii: f64, cij: f64, cji: f64, cjj: f64) -> bool
     ensures { λ r. ⌜ r ≡ nearSymmetric cii cij cji cjj ⌝ }
 {
+    let apart = number::size(cij - cji);
+    if apart == 0.0 {
+        return true;
+    }
     let tolerance = 1e-9 * number::root_or_nan(number::size(cii * cjj));
-    !(tolerance < number::size(cij - cji))
+    !(tolerance < apart)
 }
 
 // Sylvester's test needs symmetry.

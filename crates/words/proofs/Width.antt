@@ -1,12 +1,12 @@
--- A number of n bytes is taken in from its highest byte down: one turn of `bytes_at` takes in one byte, eight fit 64 bits, and bytes past the
+-- A number of n bytes is taken in from its highest byte down: one turn of `present_at` takes in one byte, eight fit 64 bits, and bytes past the
 -- end of the list are all 0. One account for every width. Assumes nothing.
 use mathlib.Core.Path.{_≡_, refl, _∙_}
-use mathlib.Core.List.{List, []}
+use mathlib.Core.List.{List, [], _∷_}
 use Prim.Native.Nat.{ℕ, zero, suc, _+_, _-_, _*_, _^_, _≤_, _<_}
 use native.Mathlib.Nat.{pow-suc, pow-le-pow-right, add-zero}
 use native.Mathlib.Omega.{arith}
 use lib.Dec.{lit≤}
-use lib.ListN.{getD, drop, length, drop-of-length-le}
+use lib.ListN.{getD, drop, length, drop-of-length-le, length-drop}
 use lib.Seq.{drop-drop, getD-drop}
 use Rattle.words.specs.Words.{littleEndian, wordAt}
 
@@ -59,3 +59,14 @@ littleEndian-nil (suc n) = rw (littleEndian-nil n)
 
 pub past-end : (s : List ℕ) (i n : ℕ) → length s ≤ i → wordAt n s i ≡ 0
 past-end s i n h = rw (drop-of-length-le s h) (littleEndian-nil n)
+
+-- where the list ends after m of the n bytes, the others are the highest, and 0
+short : (m n : ℕ) (xs : List ℕ) → length xs ≤ m → m ≤ n → littleEndian n xs ≡ littleEndian m xs
+unfolding littleEndian
+short zero n [] h k = littleEndian-nil n
+short zero n (x ∷ xs) h k = absurd (omega arith)
+short (suc m) zero xs h k = absurd (omega arith)
+short (suc m) (suc n) xs h k = rw (short m n (drop 1 xs) (rw (length-drop 1 xs) (omega arith)) (omega arith))
+
+pub past-some : (s : List ℕ) (i m n : ℕ) → length s ≤ i + m → m ≤ n → wordAt n s i ≡ wordAt m s i
+past-some s i m n h k = short m n (drop i s) (rw (length-drop i s) (omega arith)) k

@@ -1,7 +1,7 @@
 // Little-endian numbers in lent bytes, for every bit pattern. A byte past the end counts 0, so that nothing is asked of the caller.
 ghost use mathlib.Core.Path.{_≡_};
-ghost use Prim.Native.Nat.{_^_, _<_, _≤_};
-ghost use lib.ListN.{getD};
+ghost use Prim.Native.Nat.{_+_, _^_, _<_, _≤_};
+ghost use lib.ListN.{getD, length};
 ghost use lib.Ieee.{binary64};
 ghost use lib.Ieee.{ofBits as ofPattern, toBits as toPattern};
 ghost use Rattle.words.specs.Words.{floatAt, signedAt, wordAt};
@@ -22,7 +22,23 @@ fn wide(x: u8) -> u64
     x as u64
 }
 
-// The n bytes from index i on, the lowest first. Where i is past the end they are all 0, and the early answer keeps i + k from wrapping.
+// The n bytes from index i on, the lowest first, which are all there.
+fn present_at(s: &[u8], i: usize, n: usize) -> u64
+    requires { ⌜ n ≤ 8 ⌝ }
+    requires { ⌜ i + n ≤ length (now s) ⌝ }
+    ensures { λ r. ⌜ r ≡ wordAt n (now (s .entry)) i ⌝ }
+    ensures { λ r. ⌜ r < 256 ^ n ⌝ }
+{
+    let mut k = n;
+    let mut v: u64 = 0;
+    while 0 < k {
+        k -= 1;
+        v = v * 256 + wide(s[i + k]);
+    }
+    v
+}
+
+// The n bytes from index i on, the lowest first. Those past the end are the highest, and 0, so the number is that of the bytes that are there.
 fn bytes_at(s: &[u8], i: usize, n: usize) -> u64
     requires { ⌜ n ≤ 8 ⌝ }
     ensures { λ r. ⌜ r ≡ wordAt n (now (s .entry)) i ⌝ }
@@ -31,13 +47,11 @@ fn bytes_at(s: &[u8], i: usize, n: usize) -> u64
     if s.len() <= i {
         return 0;
     }
-    let mut k = n;
-    let mut v: u64 = 0;
-    while 0 < k {
-        k -= 1;
-        v = v * 256 + byte(s, i + k);
+    let left = s.len() - i;
+    if n <= left {
+        return present_at(s, i, n);
     }
-    v
+    present_at(s, i, left)
 }
 
 pub fn u32_at(s: &[u8], i: usize) -> u32

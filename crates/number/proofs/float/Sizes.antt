@@ -1,4 +1,4 @@
--- The size of an f64: it is finite where the value is, it is not below zero, negation does not change it, two tests against zero tell it, and a bound on it bounds the value
+-- The size of an f64: it is finite where the value is, it is an f64 too, it is not below zero, negation does not change it, two tests against zero tell it, and a bound on it bounds the value
 -- on both sides. Assumes nothing.
 use mathlib.Core.Path.{_≡_, refl, sym, _∙_}
 use Prim.Native.Nat.{zero as none, suc, _*_}
@@ -21,6 +21,13 @@ unfolding size
 size-finite nan = refl
 size-finite (inf s) = refl
 size-finite (fin s m e) = refl
+
+pub size-fits : (x : Float) → T (fits binary64 x) → T (fits binary64 (size x))
+unfolding size fits
+size-fits nan f = tt
+size-fits (inf s) f = tt
+size-fits (fin s none e) f = f
+size-fits (fin s (suc m) e) f = f
 
 pub size-nonnegative : (x : Float) → (size x <ᶠ zero) ≡ false
 unfolding size Ieee.lt Ieee.ofBits

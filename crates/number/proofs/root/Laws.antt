@@ -1,15 +1,21 @@
 -- What a user of `sqrt` goes by: a number has one root and `rootOf` is it, the root of a larger number is no smaller, it is nearer than any
--- other f64, and the root of a square is exact. Assumes nothing.
+-- other f64, the root of a square is exact, and no root has a minus sign where the number has none. Assumes nothing.
 use mathlib.Core.Path.{_≡_, refl, sym, ap, _∙_, subst}
 use mathlib.Core.Logic.{inl, inr}
 use Prim.Native.Nat.{ℕ, _+_, _-_, _*_, _^_, _≤_, _<_}
 use native.Mathlib.Nat.{lt-irrefl, lt-of-le-of-lt, lt-of-lt-of-le, le-trans, le-of-lt, le-of-eq, mul-le-mul, mul-le-mul-right, add-le-add, not-le-of-lt, mul-assoc, mul-lt-mul-of-pos-right}
 use native.Mathlib.Omega.{arith}
+use mathlib.Core.Bool.{Bool, true, false, not}
 use lib.Dec.{T}
 use lib.Ieee.{Float, binary64, fits, toBits}
 use lib.Ieee.Positive.{positive}
-use Rattle.number.specs.Root.{grains, next, previous, square, patternGrains, rootOf, IsRoot}
+use Rattle.number.specs.Float.{_<ᶠ_, _=ᶠ_, _when_else_}
+use Rattle.number.specs.Constants.{zero, infinity}
+use Rattle.number.specs.Said.{gives, refusal, orNan}
+use Rattle.number.specs.Root.{grains, next, previous, square, patternGrains, rootOf, sqrtOf, IsRoot}
 use Rattle.number.proofs.Below.{below-or-not}
+use Rattle.number.proofs.float.Signs.{unsigned, positive-unsigned}
+use Rattle.number.proofs.root.Choice.{is-positive}
 use Rattle.number.proofs.root.Values.{pattern-step, pattern-mono}
 use Rattle.number.proofs.root.Floats.{in-range, grains-at, grains-next, grains-previous}
 use Rattle.number.proofs.root.Descend.{only-root}
@@ -121,3 +127,15 @@ exact x r F P e =
   where
     back : (p : ℕ) → 0 < p → p - 1 + 1 ≡ p
     back p h = omega arith
+
+-- ---- no minus sign
+
+pub root-unsigned : (x : Float) → T (fits binary64 x) → unsigned x ≡ true → unsigned (orNan (sqrtOf x)) ≡ true
+unfolding sqrtOf
+root-unsigned x F p = go (x =ᶠ zero) (x =ᶠ infinity) (zero <ᶠ x) refl refl
+  where
+    go : (z i a : Bool) → (x =ᶠ infinity) ≡ i → (zero <ᶠ x) ≡ a → unsigned (orNan (gives x when z else gives x when i else refusal 2 when not a else gives (rootOf x))) ≡ true
+    go true i a e h = p
+    go false true a e h = p
+    go false false false e h = refl
+    go false false true e h = positive-unsigned (rootOf x) (root-is x F (is-positive x h e) .above-zero)

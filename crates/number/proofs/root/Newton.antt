@@ -49,3 +49,13 @@ newton-below n r h = smaller r (n / r) (div-lt-iff-lt-mul (sq-pos n r h) .1 h)
 -- the square of a number below 2 ^ 28
 pub square-small : (s : ℕ) → s ≤ 2 ^ 28 → s * s ≤ 2 ^ 56
 square-small s h = mul-le-mul h h
+
+-- what a number of at most 54 binary digits holds a guess of at least 27
+pub quotient-small : (m r : ℕ) → m + 2 ≤ 2 ^ 54 → 2 ^ 26 ≤ r → m / r ≤ 2 ^ 28
+quotient-small m r h k = le-of-lt (div-lt-iff-lt-mul (some k) .1 (under (mul-le-mul-right (2 ^ 28) k)))
+  where
+    some : 2 ^ 26 ≤ r → 0 < r
+    some k = omega arith
+
+    under : 2 ^ 26 * 2 ^ 28 ≤ r * 2 ^ 28 → m < 2 ^ 28 * r
+    under p = omega arith

@@ -1,5 +1,4 @@
-use Rattle.planar.specs.Compose.{composed}
-use Rattle.planar.specs.Compose.{shifted}
+use Rattle.planar.specs.Compose.{composed, shifted}
 use borrow.Author.Needs.{needs}
 use Rattle.planar.proofs.motion.PlanarMotion.composed.Statement.{statement}
 use Rattle.planar.proofs.motion.PlanarMotion.composed.Tie as tie
@@ -40,21 +39,18 @@ array-read-wrapped-2 c = search needs
 wrapped-requires : tie.Need-wrapped-requires
 wrapped-requires c κs = search needs
 
-first-jacobian-requires : tie.Need-first-jacobian-requires
-first-jacobian-requires c κs = search needs
+carried-by-shift-requires : tie.Need-carried-by-shift-requires
+carried-by-shift-requires c κs = search needs
 
-carried-requires : tie.Need-carried-requires
-carried-requires c κs = search needs
-
-carried-requires-2 : tie.Need-carried-requires-2
-carried-requires-2 c κs = search needs
+carried-by-turn-requires : tie.Need-carried-by-turn-requires
+carried-by-turn-requires c κs = search needs
 
 symmetrized-requires : tie.Need-symmetrized-requires
 symmetrized-requires c κs = search needs
 
 returns : tie.Need-returns
 unfolding composed shifted
-returns c = rw (c .symmetrized .ensures, c .before .carried2 .ensures, c .before .before .carried .ensures, c .before .before .before .first-jacobian .ensures, c .before .before .before .before .wrapped .ensures, c .before .before .before .before .before .transform .ensures, c .before .before .before .before .before .before .turn-matrix .ensures)
+returns c = rw (c .symmetrized .ensures, c .before .carried-by-turn .ensures, c .before .before .carried-by-shift .ensures, c .before .before .before .wrapped .ensures, c .before .before .before .before .transform .ensures, c .before .before .before .before .before .turn-matrix .ensures)
 
 pub composed-spec : {M : Type 1} → statement M
 composed-spec =
@@ -72,8 +68,7 @@ composed-spec =
     array-read-wrapped
     array-read-wrapped-2
     wrapped-requires
-    first-jacobian-requires
-    carried-requires
-    carried-requires-2
+    carried-by-shift-requires
+    carried-by-turn-requires
     symmetrized-requires
     returns)
