@@ -1,5 +1,8 @@
 // One step: a reading held for a time.
 ghost use mathlib.Core.Path.{_≡_};
+ghost use mathlib.Core.Bool.{true};
+ghost use Rattle.number.specs.Float.{finite};
+ghost use Rattle.mat9.specs.Shapes.{DiagonalShape, NoiseShape, StepShape};
 ghost use Rattle.imu.specs.Answers.{toldWith};
 ghost use Rattle.imu.specs.State.{toldIntegrated};
 ghost use Rattle.imu.specs.Step.{accelIn, advancedBy, carried as carriedOf, covarianceAfter, halfSquare, lessHalfSquare, lessTimes, matrixA, matrixB, matrixN, positionAfter, positionByAccel, positionByGyro, rotationAfter, rotationByGyro, stepOf, turnIn, velocityAfter, velocityByAccel, velocityByGyro};
@@ -76,6 +79,7 @@ impl PreintegratedImu {
 
     // The state after dt seconds of the acceleration a and the turn d. Every line uses values from before the step.
     fn advanced_by(self, d: Increment, a: [f64; 3], dt: f64) -> PreintegratedImu
+        requires { ⌜ finite dt ≡ true ⌝ }
         ensures { λ r. ⌜ r ≡ advancedBy self d a dt ⌝ }
     {
         let rotation = self.delta_rotation;
@@ -173,14 +177,15 @@ fn matrix_n(calib: ImuCalib, dt: f64) -> [f64; 36]
     )
 }
 
-// A·C·Aᵀ + B·N·Bᵀ.
+// A·C·Aᵀ + B·N·Bᵀ. A, B and N are mostly zeros, and what meets a zero is left out of the products.
 fn carried(a: &[f64; 81], c: &[f64; 81], b: &[f64; 54], n: &[f64; 36]) -> [f64; 81]
+    requires { ⌜ StepShape (now a) × NoiseShape (now b) × DiagonalShape (now n) ⌝ }
     ensures { λ r. ⌜ r ≡ carriedOf (now (a .entry)) (now (c .entry)) (now (b .entry)) (now (n .entry)) ⌝ }
 {
-    let ac = mat9::mat9_mul(a, c);
-    let aca = mat9::mat9_mul_transposed(&ac, a);
-    let bn = mat9::mat9x6_mul_6x6(b, n);
-    let bnb = mat9::mat9x6_mul_transposed(&bn, b);
+    let ac = mat9::step_times(a, c);
+    let aca = mat9::times_step_transposed(&ac, a);
+    let bn = mat9::noise_times_diagonal(b, n);
+    let bnb = mat9::times_noise_transposed(&bn, b);
     mat9::mat9_add(&aca, &bnb)
 }
 
@@ -192,6 +197,7 @@ fn covariance_after(
     g: [f64; 9],
     dt: f64,
 ) -> [f64; 81]
+    requires { ⌜ finite dt ≡ true ⌝ }
     ensures { λ r. ⌜ r ≡ covarianceAfter (now (before .entry)) calib rotation d g dt ⌝ }
 {
     let exp = d.exp;

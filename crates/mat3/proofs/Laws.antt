@@ -17,7 +17,6 @@ Symmetric m = transpose m ≡ m
 
 -- nine numbers are the matrix of their entries
 pub entries : (m : List Float) → length m ≡ 9 → matrix (entry m) ≡ m
-unfolding length
 entries [] e = absurd (omega arith)
 entries (a ∷ []) e = absurd (omega arith)
 entries (a ∷ b ∷ []) e = absurd (omega arith)

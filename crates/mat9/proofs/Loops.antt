@@ -60,6 +60,11 @@ times-column {inner} rows a b i j f e =
     (λ k. entry rows a i k ⊗ entry inner b k j)
     (λ k h. rw (zero-mul, add-zero, tabulated-at f inner k nan h, e k h))
 
+pub tabulated-same : (n : ℕ) (f g : ℕ → Float) → ((k : ℕ) → k < n → f k ≡ g k) → tabulated n f ≡ tabulated n g
+unfolding tabulated
+tabulated-same zero f g e = refl
+tabulated-same (suc n) f g e = rw (tabulated-same n f g (λ k h. e k (omega arith)), e n (omega arith))
+
 -- ---- filled column by column
 
 -- `out`, a matrix of nine rows, is filled up to row r of column c; it goes on as `d`
@@ -75,6 +80,11 @@ pub filled-to-more : {cols r c : ℕ} {f : ℕ → ℕ → Float} {d out : List 
 filled-to-more {cols} {r} {c} {f} {d} {out} {v} w h g e =
     let at : r + 1 + c * 9 ≡ r + c * 9 + 1 = omega arith in
     record { row = omega arith; filled = rw at (filled-more (w .filled) (within h g) (e ∙ sym (cell-at f h))) }
+
+-- a column that was made whole, and is stored row by row
+pub filled-to-copy : {cols r c : ℕ} {f : ℕ → ℕ → Float} {d out w : List Float}
+    → FilledTo cols f d r c out → r < 9 → c < cols → w ≡ tabulated 9 (λ i. f i c) → FilledTo cols f d (r + 1) c (set out (r + c * 9) (getD w r nan))
+filled-to-copy {cols} {r} {c} {f} v h g e = filled-to-more v h g (rw e (tabulated-at (λ i. f i c) 9 r nan h))
 
 -- after the last row of a column stands the first of the next
 pub filled-to-next : {cols r c : ℕ} {f : ℕ → ℕ → Float} {d out : List Float} → FilledTo cols f d r c out → 9 ≤ r → FilledTo cols f out 0 (c + 1) out

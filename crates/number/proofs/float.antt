@@ -5,6 +5,7 @@ pub mod Monotone
 pub mod Multiples
 pub mod Order
 pub mod Parts
+pub mod PlusZero
 pub mod Round
 pub mod SameNumber
 pub mod Signs

@@ -1,6 +1,6 @@
 -- The seven answers of `stepOf`, by the tests that lead to each. Assumes nothing.
-use mathlib.Core.Path.{_≡_}
-use mathlib.Core.Bool.{true, false, not, _&&_}
+use mathlib.Core.Path.{_≡_, refl}
+use mathlib.Core.Bool.{Bool, true, false, not, _&&_, true≢false}
 use lib.Ieee.{Float}
 use Rattle.number.specs.Float.{_<ᶠ_, _=ᶠ_, finite}
 use Rattle.number.specs.Constants.{zero as +0}
@@ -10,6 +10,14 @@ use Rattle.inertial.specs.declared.ImuMeasurement.{ImuMeasurement}
 use Rattle.imu.specs.declared.state.PreintegratedImu.{PreintegratedImu}
 use Rattle.imu.specs.State.{finiteMeasurement, finiteState}
 use Rattle.imu.specs.Step.{advanced, angleIn, stepOf}
+
+pub fit-time : (m : ImuMeasurement) (dt : Float) → not (finiteMeasurement m && finite dt) ≡ false → finite dt ≡ true
+fit-time m dt = go (finiteMeasurement m) (finite dt)
+  where
+    go : (a b : Bool) → not (a && b) ≡ false → b ≡ true
+    go true true h = refl
+    go true false h = absurd (true≢false h)
+    go false b h = absurd (true≢false h)
 
 module _ (s : PreintegratedImu) (m : ImuMeasurement) (dt : Float) where
   pub unfit : not (finiteMeasurement m && finite dt) ≡ true → stepOf s m dt ≡ refuses 2 s

@@ -4,32 +4,32 @@ use borrow.Author.Needs.{needs}
 use Rattle.imu.proofs.step.carried.Statement.{statement}
 use Rattle.imu.proofs.step.carried.Tie as tie
 
-mat9-mul-requires : tie.Need-mat9-mul-requires
-mat9-mul-requires c κs = search needs
+step-times-requires : tie.Need-step-times-requires
+step-times-requires c κs = search needs
 
-mat9-mul-transposed-requires : tie.Need-mat9-mul-transposed-requires
-mat9-mul-transposed-requires c κs = search needs
+times-step-transposed-requires : tie.Need-times-step-transposed-requires
+times-step-transposed-requires c κs = search needs
 
-mat9x6-mul-6x6-requires : tie.Need-mat9x6-mul-6x6-requires
-mat9x6-mul-6x6-requires c κs = search needs
+noise-times-diagonal-requires : tie.Need-noise-times-diagonal-requires
+noise-times-diagonal-requires c κs = search needs
 
-mat9x6-mul-transposed-requires : tie.Need-mat9x6-mul-transposed-requires
-mat9x6-mul-transposed-requires c κs = search needs
+times-noise-transposed-requires : tie.Need-times-noise-transposed-requires
+times-noise-transposed-requires c κs = search needs
 
 mat9-add-requires : tie.Need-mat9-add-requires
 mat9-add-requires c κs = search needs
 
 returns : tie.Need-returns
 unfolding carried
-returns c = rw (c .mat9-add .ensures, c .before .before .before .mat9x6-mul-transposed .ensures, c .before .before .before .before .before .mat9x6-mul-6x6 .ensures, c .before .before .before .before .before .before .mat9-mul-transposed .ensures, c .before .before .before .before .before .before .before .before .mat9-mul .ensures)
+returns c = rw (c .mat9-add .ensures, c .before .before .before .times-noise-transposed .ensures, c .before .before .before .before .before .noise-times-diagonal .ensures, c .before .before .before .before .before .before .times-step-transposed .ensures, c .before .before .before .before .before .before .before .before .step-times .ensures)
 
 pub carried-spec : {M : Type 1} → statement M
 carried-spec =
     tie.close
     (tie.spec
-    mat9-mul-requires
-    mat9-mul-transposed-requires
-    mat9x6-mul-6x6-requires
-    mat9x6-mul-transposed-requires
+    step-times-requires
+    times-step-transposed-requires
+    noise-times-diagonal-requires
+    times-noise-transposed-requires
     mat9-add-requires
     returns)

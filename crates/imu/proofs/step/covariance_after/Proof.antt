@@ -1,6 +1,7 @@
 -- `covariance_after` meets its contract: each call's result is what it ensures, and with these put in place, the last first, both sides are one term. Assumes nothing.
 use Rattle.imu.specs.Step.{covarianceAfter}
 use borrow.Author.Needs.{needs}
+use Rattle.imu.proofs.step.Shapes.{step-shape, noise-shape, diagonal-shape}
 use Rattle.imu.proofs.step.covariance_after.Statement.{statement}
 use Rattle.imu.proofs.step.covariance_after.Tie as tie
 
@@ -14,7 +15,12 @@ matrix-n-requires : tie.Need-matrix-n-requires
 matrix-n-requires c κs = search needs
 
 carried-requires : tie.Need-carried-requires
-carried-requires c κs = search needs
+carried-requires c κs =
+    let n = c .before .before .before in
+    let b = n .before in
+    let a = b .before in
+    let finite-time = a .before .before .before .pre in
+    (rw (a .matrix-a .ensures) (step-shape _ _ _ finite-time), rw (b .matrix-b .ensures) (noise-shape _ _ _), rw (n .matrix-n .ensures) (diagonal-shape _ _))
 
 returns : tie.Need-returns
 unfolding covarianceAfter

@@ -1,7 +1,7 @@
 -- `PreintegratedImu::integrate` meets its contract: each way out by the tests passed on the way (proofs/step/Answers.antt). Assumes nothing.
 use mathlib.Core.Path.{_∙_, sym}
 use Rattle.imu.specs.Step.{advanced, angleIn}
-use Rattle.imu.proofs.step.Answers.{unfit, backward, at-once, too-wide, no-angle, not-finite, given}
+use Rattle.imu.proofs.step.Answers.{unfit, fit-time, backward, at-once, too-wide, no-angle, not-finite, given}
 use borrow.Author.Needs.{needs}
 use Rattle.imu.proofs.state.PreintegratedImu.integrate.Statement.{statement}
 use Rattle.imu.proofs.state.PreintegratedImu.integrate.Tie as tie
@@ -76,7 +76,10 @@ accel-in-requires : tie.Need-accel-in-requires
 accel-in-requires c κs = search needs
 
 advanced-by-requires : tie.Need-advanced-by-requires
-advanced-by-requires c κs = search needs
+advanced-by-requires c κs =
+    let q = c .before .before .before .before .before .before .before in
+    let a = q .before .before .before .before .before .args in
+    fit-time (a .measurement) (a .dt) (rw (q .before .before .before .is-finite .ensures, q .before .before .before .before .is-finite-measurement .ensures) at (q .before .before .if1 .left))
 
 is-finite-requires-3 : tie.Need-is-finite-requires-3
 is-finite-requires-3 c κs = search needs
