@@ -2,7 +2,7 @@
 ghost use mathlib.Core.Path.{_≡_};
 ghost use mathlib.Core.Bool.{true};
 ghost use Rattle.number.specs.Float.{finite};
-ghost use Rattle.mat9.specs.Shapes.{DiagonalShape, NoiseShape, StepShape};
+ghost use Rattle.lean9.specs.Shapes.{DiagonalShape, NoiseShape, StepShape};
 ghost use Rattle.imu.specs.Answers.{toldWith};
 ghost use Rattle.imu.specs.State.{toldIntegrated};
 ghost use Rattle.imu.specs.Step.{accelIn, advancedBy, carried as carriedOf, covarianceAfter, halfSquare, lessHalfSquare, lessTimes, matrixA, matrixB, matrixN, positionAfter, positionByAccel, positionByGyro, rotationAfter, rotationByGyro, stepOf, turnIn, velocityAfter, velocityByAccel, velocityByGyro};
@@ -182,10 +182,10 @@ fn carried(a: &[f64; 81], c: &[f64; 81], b: &[f64; 54], n: &[f64; 36]) -> [f64; 
     requires { ⌜ StepShape (now a) × NoiseShape (now b) × DiagonalShape (now n) ⌝ }
     ensures { λ r. ⌜ r ≡ carriedOf (now (a .entry)) (now (c .entry)) (now (b .entry)) (now (n .entry)) ⌝ }
 {
-    let ac = mat9::step_times(a, c);
-    let aca = mat9::times_step_transposed(&ac, a);
-    let bn = mat9::noise_times_diagonal(b, n);
-    let bnb = mat9::times_noise_transposed(&bn, b);
+    let ac = lean9::step_times(a, c);
+    let aca = lean9::times_step_transposed(&ac, a);
+    let bn = lean9::noise_times_diagonal(b, n);
+    let bnb = lean9::times_noise_transposed(&bn, b);
     mat9::mat9_add(&aca, &bnb)
 }
 

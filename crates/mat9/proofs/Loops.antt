@@ -50,7 +50,7 @@ sum-same zero f g e = refl
 sum-same (suc n) f g e = rw (sum-same n f g (λ k h. e k (omega arith)), e n (omega arith))
 
 -- what is read from column j of b gives the product that column j of b gives
-pub times-column : {inner : ℕ} (rows : ℕ) (a b : List Float) (i j : ℕ) (f : ℕ → Float) → ((k : ℕ) → k < inner → f k ≡ entry inner b k j)
+times-column : {inner : ℕ} (rows : ℕ) (a b : List Float) (i j : ℕ) (f : ℕ → Float) → ((k : ℕ) → k < inner → f k ≡ entry inner b k j)
     → rowTimesColumn rows inner a (tabulated inner f) i 0 ≡ rowTimesColumn rows inner a b i j
 unfolding rowTimesColumn
 times-column {inner} rows a b i j f e =
@@ -80,6 +80,12 @@ pub filled-to-more : {cols r c : ℕ} {f : ℕ → ℕ → Float} {d out : List 
 filled-to-more {cols} {r} {c} {f} {d} {out} {v} w h g e =
     let at : r + 1 + c * 9 ≡ r + c * 9 + 1 = omega arith in
     record { row = omega arith; filled = rw at (filled-more (w .filled) (within h g) (e ∙ sym (cell-at f h))) }
+
+-- a row of a times what was read from a column of b
+pub filled-to-product : {inner cols r c : ℕ} {d out v : List Float} {x : Float} (a b : List Float) (f : ℕ → Float)
+    → FilledTo cols (rowTimesColumn 9 inner a b) d r c out → r < 9 → c < cols → x ≡ rowTimesColumn 9 inner a v r 0 → v ≡ tabulated inner f → ((k : ℕ) → k < inner → f k ≡ entry inner b k c)
+    → FilledTo cols (rowTimesColumn 9 inner a b) d (r + 1) c (set out (r + c * 9) x)
+filled-to-product {r = r} {c = c} a b f w h g e read same = filled-to-more w h g (e ∙ rw (read, times-column 9 a b r c f same))
 
 -- a column that was made whole, and is stored row by row
 pub filled-to-copy : {cols r c : ℕ} {f : ℕ → ℕ → Float} {d out w : List Float}

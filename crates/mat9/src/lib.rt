@@ -1,19 +1,14 @@
 // The 9×9, 9×6 and 6×6 matrices of the inertial covariance: numbers column by column. From the helpers at the end of kornia's imu.rs.
 // Arrays are lent and a result is returned by value, so that no matrix is copied to be read. A product goes column by column: a column of b is read once, and
 // the nine rows of a, whose numbers stand next to each other, are then summed alike. Every size is a constant, so that no division is left to be done at run time.
-pub mod lean;
 
-pub use lean::noise_times_diagonal;
-pub use lean::step_times;
-pub use lean::times_noise_transposed;
-pub use lean::times_step_transposed;
 ghost use mathlib.Core.Path.{_≡_};
 ghost use Prim.Native.Nat.{_<_};
 ghost use Rattle.number.specs.Tabulated.{tabulated};
 ghost use Rattle.mat9.specs.Matrix.{allFinite, blocks, diagonal6, diagonalRaised, entry, finiteDiagonal, product as productOf, rowTimesColumn, sum as sumOf, transposed};
 
 // Column c of b.
-fn column9(b: &[f64; 81], c: usize) -> [f64; 9]
+pub fn column9(b: &[f64; 81], c: usize) -> [f64; 9]
     requires { ⌜ c < 9 ⌝ }
     ensures { λ x. ⌜ x ≡ tabulated 9 (λ k. entry 9 (now (b .entry)) k c) ⌝ }
 {

@@ -5,11 +5,11 @@ ghost use Rattle.number.specs.Float.{finite};
 ghost use Rattle.number.specs.Float.{size as sizeOf};
 ghost use Rattle.number.specs.Float.{larger as largerOf};
 
-// Neither an infinity nor a NaN.
+// Neither an infinity nor a NaN: these less themselves are NaN, and a number less itself is 0.
 pub fn is_finite(x: f64) -> bool
     ensures { λ r. ⌜ r ≡ finite x ⌝ }
 {
-    if x < 1.0 / 0.0 { -1.0 / 0.0 < x } else { false }
+    x - x == 0.0
 }
 
 // Finite and above 0: what a length or a sigma has to be.

@@ -1,4 +1,4 @@
--- The matrices of a step have zeros where the lean products of mat9 leave terms out (mat9, specs/Shapes.antt). Assumes nothing.
+-- The matrices of a step have zeros where the products of lean9 leave terms out (lean9, specs/Shapes.antt). Assumes nothing.
 use mathlib.Core.Path.{_≡_, refl, sym, ap, _∙_, subst}
 use Prim.Native.Nat.{ℕ, _<_}
 use mathlib.Core.Bool.{Bool, true, false, _||_}
@@ -15,7 +15,7 @@ use Rattle.number.proofs.float.PlusZero.{a-zero-times}
 use Rattle.number.proofs.float.SameNumber.{Zero, signed}
 use Rattle.mat3.specs.Matrix.{transpose, zeros, identity, scaled}
 use Rattle.mat9.specs.Matrix.{entry, matrix, blocks, diagonal6}
-use Rattle.mat9.specs.Shapes.{ZeroBut, StepShape, NoiseShape, DiagonalShape, keptInStep, keptInNoise}
+use Rattle.lean9.specs.Shapes.{ZeroBut, StepShape, NoiseShape, DiagonalShape, keptInStep, keptInNoise}
 use Rattle.mat9.proofs.Loops.{blockEntry, entry-matrix}
 use Rattle.inertial.specs.declared.ImuCalib.{ImuCalib}
 use Rattle.imu.specs.Step.{halfSquare, lessTimes, lessHalfSquare, matrixA, matrixB, matrixN}

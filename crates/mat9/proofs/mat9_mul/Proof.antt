@@ -1,10 +1,10 @@
 -- `mat9_mul` meets its contract. The invariants: the columns before c are filled, and of column c the rows before r.
 -- The measures are the numbers of columns and of rows left. Assumes nothing.
-use mathlib.Core.Path.{refl, _∙_}
-use Prim.Native.Nat.{_-_, _<_}
+use mathlib.Core.Path.{refl}
+use Prim.Native.Nat.{_-_}
 use native.Mathlib.Omega.{arith}
 use Rattle.mat9.specs.Matrix.{entry, product, rowTimesColumn}
-use Rattle.mat9.proofs.Loops.{FilledTo, filled-to-none, filled-to-more, filled-to-next, filled-to-done, times-column}
+use Rattle.mat9.proofs.Loops.{FilledTo, filled-to-none, filled-to-product, filled-to-next, filled-to-done}
 use Rattle.mat9.proofs.mat9_mul.Statement.{statement}
 use Rattle.mat9.proofs.mat9_mul.Tie as tie
 
@@ -54,13 +54,9 @@ loop2-again : tie.Need-loop2-again Inv-loop2 μ-loop2 Inv-loop μ-loop
 loop2-again c =
     let read = c .before .before .before in
     let start = read .before .before .before in
-    let a = start .args .a .now in
     let b = start .args .b .now in
-    let i = c .before .before .loop2 .r in
     let j = read .before .before .loop .c in
-    let within : j < 9 = omega arith in
-    let same = times-column 9 a b i j (λ k. entry 9 b k j) (λ k h. refl) in
-    filled-to-more (c .before .before .loop2 .inv) (omega arith) within (c .row-times9 .ensures ∙ rw (read .column9 .ensures, same))
+    filled-to-product (start .args .a .now) b (λ k. entry 9 b k j) (c .before .before .loop2 .inv) (omega arith) (omega arith) (c .row-times9 .ensures) (read .column9 .ensures) (λ k h. refl)
 
 add-c : tie.Need-add-c Inv-loop2 μ-loop2 Inv-loop μ-loop
 add-c c = omega arith

@@ -1,10 +1,10 @@
 -- `mat9_mul_transposed` meets its contract. The invariants: the columns before c are filled, and of column c the rows before r.
 -- The measures are the numbers of columns and of rows left. Assumes nothing.
-use mathlib.Core.Path.{refl, sym, _∙_}
+use mathlib.Core.Path.{refl, sym}
 use Prim.Native.Nat.{_-_, _<_}
 use native.Mathlib.Omega.{arith}
 use Rattle.mat9.specs.Matrix.{entry, product, rowTimesColumn, transposed}
-use Rattle.mat9.proofs.Loops.{FilledTo, filled-to-none, filled-to-more, filled-to-next, filled-to-done, times-column, entry-transposed}
+use Rattle.mat9.proofs.Loops.{FilledTo, filled-to-none, filled-to-product, filled-to-next, filled-to-done, entry-transposed}
 use Rattle.mat9.proofs.mat9_mul_transposed.Statement.{statement}
 use Rattle.mat9.proofs.mat9_mul_transposed.Tie as tie
 
@@ -54,13 +54,10 @@ loop2-again : tie.Need-loop2-again Inv-loop2 μ-loop2 Inv-loop μ-loop
 loop2-again c =
     let read = c .before .before .before in
     let start = read .before .before .before in
-    let a = start .args .a .now in
     let b = start .args .b .now in
-    let i = c .before .before .loop2 .r in
     let j = read .before .before .loop .c in
     let within : j < 9 = omega arith in
-    let same = times-column 9 a (transposed 9 9 b) i j (λ k. entry 9 b j k) (λ k h. sym (entry-transposed b h within)) in
-    filled-to-more (c .before .before .loop2 .inv) (omega arith) within (c .row-times9 .ensures ∙ rw (read .row9 .ensures, same))
+    filled-to-product (start .args .a .now) (transposed 9 9 b) (λ k. entry 9 b j k) (c .before .before .loop2 .inv) (omega arith) within (c .row-times9 .ensures) (read .row9 .ensures) (λ k h. sym (entry-transposed b h within))
 
 add-c : tie.Need-add-c Inv-loop2 μ-loop2 Inv-loop μ-loop
 add-c c = omega arith

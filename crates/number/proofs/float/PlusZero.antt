@@ -112,6 +112,12 @@ same-bits s m e n d h =
     (div-same (m * up e * 2 ^ 1074) (down e) (n * up d * 2 ^ 1074) (down d) (down-pos e) (down-pos d)
     (mul-right-comm (m * up e) (2 ^ 1074) (down d) ∙ ap (λ (k : ℕ). k * 2 ^ 1074) h ∙ mul-right-comm (n * up d) (down e) (2 ^ 1074)))
 
+-- two tests that pass together
+pub both : (p q : Bool) → (p && q) ≡ true → (p ≡ true) × (q ≡ true)
+both true true h = (refl, refl)
+both true false h = absurd (false≢true h)
+both false q h = absurd (false≢true h)
+
 -- a significand that makes no size is 0
 no-size : (m : ℕ) (e d : ℤ) → m * up e * down d ≡ 0 → m ≡ 0
 no-size none e d h = refl
@@ -125,11 +131,6 @@ unfolding Ieee.eq
 same-is-equal x y f g p h k l =
     sym (ofBits-toBits binary64 x f) ∙ ap (Ieee.ofBits binary64) (go x y p (same-finite p h) (same-equal x y p (same-finite p h) h) k l) ∙ ofBits-toBits binary64 y g
   where
-    both : (p q : Bool) → (p && q) ≡ true → (p ≡ true) × (q ≡ true)
-    both true true h = (refl, refl)
-    both true false h = absurd (false≢true h)
-    both false q h = absurd (false≢true h)
-
     go : (x y : Float) → finite x ≡ true → finite y ≡ true → (x =ᶠ y) ≡ true → notMinusZero x ≡ true → notMinusZero y ≡ true → toBits binary64 x ≡ toBits binary64 y
     go nan y p q h k l = absurd (false≢true p)
     go (inf s) y p q h k l = absurd (false≢true p)

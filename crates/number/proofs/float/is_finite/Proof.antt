@@ -1,32 +1,45 @@
--- `number::float::is_finite` meets its contract: the finite values are those between the two infinities. Assumes nothing.
-use mathlib.Core.Path.{_≡_, refl, sym}
-use mathlib.Core.Bool.{true, false}
+-- `number::float::is_finite` meets its contract: a NaN or an infinity less itself is a NaN, and a finite value less itself is a zero. Assumes nothing.
+use mathlib.Core.Path.{_≡_, refl, ap, _∙_}
+use Prim.Native.Nat.{ℕ, _-_, _*_, _<_}
+use native.Mathlib.Nat.{mul-pos}
+use native.Mathlib.Omega.{arith}
+use mathlib.Core.Bool.{Bool, true, false, not}
+use borrow.Author.Tests.{le-ltb}
+use lib.Dec.{ltb}
+use lib.IntN.{pos}
 use lib.Ieee as Ieee
-use lib.Ieee.{Float, nan, inf, fin}
-use Rattle.number.specs.Float.{finite, _<ᶠ_}
+use lib.Ieee.{Float, nan, inf, fin, up, down, binary64}
+use lib.Ieee.Fits.{down-pos}
+use Rattle.number.specs.Float.{finite, _⊖_, _=ᶠ_}
+use Rattle.number.specs.Constants.{zero}
+use Rattle.number.proofs.float.Round.{round-none}
+use Rattle.number.proofs.float.Zero.{is-zero}
 use Rattle.number.proofs.float.is_finite.Statement.{statement}
 use Rattle.number.proofs.float.is_finite.Tie as tie
 
-below-infinity : (x : Float) → (x <ᶠ inf false) ≡ true → (inf true <ᶠ x) ≡ finite x
-unfolding Ieee.lt
-below-infinity nan h = refl
-below-infinity (inf true) h = refl
-below-infinity (inf false) h = sym h
-below-infinity (fin s m e) h = refl
+nothing-left : (s : Bool) (a c : ℕ) → 0 < c → (Ieee.sum binary64 s a (not s) a c =ᶠ zero) ≡ true
+unfolding Ieee.sum
+nothing-left s a c C = go s
+  where
+    same : ltb a a ≡ false
+    same = le-ltb a a (omega arith)
 
-not-below-infinity : (x : Float) → (x <ᶠ inf false) ≡ false → false ≡ finite x
-unfolding Ieee.lt
-not-below-infinity nan h = refl
-not-below-infinity (inf s) h = refl
-not-below-infinity (fin s m e) h = sym h
+    none : a - a ≡ 0
+    none = omega arith
+
+    go : (s : Bool) → (Ieee.sum binary64 s a (not s) a c =ᶠ zero) ≡ true
+    go true = rw (same, none, round-none false c C) (is-zero false 0 (pos 0))
+    go false = rw (same, none, round-none false c C) (is-zero false 0 (pos 0))
+
+less-itself : (x : Float) → (x ⊖ x =ᶠ zero) ≡ finite x
+unfolding Ieee.sub Ieee.add Ieee.neg Ieee.eq Ieee.ofBits
+less-itself nan = refl
+less-itself (inf true) = refl
+less-itself (inf false) = refl
+less-itself (fin s m e) = nothing-left s (m * up e * down e) (down e * down e) (mul-pos (down-pos e) (down-pos e))
 
 returns : tie.Need-returns
-unfolding Ieee.div Ieee.neg Ieee.ofBits
-returns c = below-infinity (c .before .args .x) (c .if1 .taken)
-
-returns-2 : tie.Need-returns-2
-unfolding Ieee.div Ieee.ofBits
-returns-2 c = not-below-infinity (c .before .args .x) (c .if1 .left)
+returns c = less-itself (c .args .x)
 
 pub is-finite-spec : {M : Type 1} → statement M
-is-finite-spec = tie.close (tie.spec returns returns-2)
+is-finite-spec = tie.close (tie.spec returns)

@@ -1,0 +1,2 @@
+-- Which places of the step's matrices hold anything but a zero.
+pub mod Shapes
