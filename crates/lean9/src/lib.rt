@@ -1,6 +1,5 @@
 // The products of the inertial step, of which one factor is mostly zeros: what meets a zero is left out. A zero times a finite number is a zero and adds nothing, bit for
-// bit, to a sum that starts from +0. So wherever the other factor is finite, each column is that of the whole product, and elsewhere the whole column is computed. A product goes column by
-// column, so that numbers that stand next to each other are summed alike, and has one way out, so that no matrix is copied.
+// bit, to a sum that starts from +0. So wherever the other factor is finite, each is the whole product, and elsewhere the whole product is computed.
 ghost use mathlib.Core.Path.{_≡_};
 ghost use Prim.Native.Nat.{_+_, _*_, _<_, _≤_};
 ghost use lib.ListN.{getD, length};
@@ -63,15 +62,19 @@ fn step_transposed_column(m: &[f64; 81], a: &[f64; 81], c: usize) -> [f64; 9]
     plus_column(plus_column(w, m, k, lower), m, c, own)
 }
 
-// Column c of m · aᵀ; `finite` says whether m is.
-fn times_step_row(m: &[f64; 81], a: &[f64; 81], c: usize, finite: bool) -> [f64; 9]
-    requires { ⌜ (c < 9) × StepShape (now a) × (finite ≡ allFinite (now m)) ⌝ }
-    ensures { λ w. ⌜ w ≡ tabulated 9 (λ r. rowTimesColumn 9 9 (now (m .entry)) (transposed 9 9 (now (a .entry))) r c) ⌝ }
+// m · aᵀ, of finite numbers.
+fn finite_times_step_transposed(m: &[f64; 81], a: &[f64; 81]) -> [f64; 81]
+    requires { ⌜ StepShape (now a) × (allFinite (now m) ≡ true) ⌝ }
+    ensures { λ x. ⌜ x ≡ productOf 9 9 9 (now (m .entry)) (transposed 9 9 (now (a .entry))) ⌝ }
 {
-    if finite {
-        return step_transposed_column(m, a, c);
+    let mut out = [0.0; 81];
+    for c in 0..9 {
+        let w = step_transposed_column(m, a, c);
+        for r in 0..9 {
+            out[r + c * 9] = w[r];
+        }
     }
-    mat9::times9(m, mat9::row9(a, c))
+    out
 }
 
 // m · aᵀ.
@@ -79,15 +82,10 @@ pub fn times_step_transposed(m: &[f64; 81], a: &[f64; 81]) -> [f64; 81]
     requires { ⌜ StepShape (now a) ⌝ }
     ensures { λ x. ⌜ x ≡ productOf 9 9 9 (now (m .entry)) (transposed 9 9 (now (a .entry))) ⌝ }
 {
-    let finite = mat9::all_finite(m);
-    let mut out = [0.0; 81];
-    for c in 0..9 {
-        let w = times_step_row(m, a, c, finite);
-        for r in 0..9 {
-            out[r + c * 9] = w[r];
-        }
+    if mat9::all_finite(m) {
+        return finite_times_step_transposed(m, a);
     }
-    out
+    mat9::mat9_mul_transposed(m, a)
 }
 
 // The first of the three columns that row c of the noise's shape keeps: a number and no branch, so that each column is summed by the same code.
@@ -112,15 +110,19 @@ fn noise_transposed_column(t: &[f64; 54], b: &[f64; 54], c: usize) -> [f64; 9]
     three_columns(t, k, x, y, z)
 }
 
-// Column c of t · bᵀ; `finite` says whether t is.
-fn times_noise_row(t: &[f64; 54], b: &[f64; 54], c: usize, finite: bool) -> [f64; 9]
-    requires { ⌜ (c < 9) × NoiseShape (now b) × (finite ≡ allFinite (now t)) ⌝ }
-    ensures { λ w. ⌜ w ≡ tabulated 9 (λ r. rowTimesColumn 9 6 (now (t .entry)) (transposed 9 6 (now (b .entry))) r c) ⌝ }
+// t · bᵀ, of finite numbers.
+fn finite_times_noise_transposed(t: &[f64; 54], b: &[f64; 54]) -> [f64; 81]
+    requires { ⌜ NoiseShape (now b) × (allFinite (now t) ≡ true) ⌝ }
+    ensures { λ x. ⌜ x ≡ productOf 9 6 9 (now (t .entry)) (transposed 9 6 (now (b .entry))) ⌝ }
 {
-    if finite {
-        return noise_transposed_column(t, b, c);
+    let mut out = [0.0; 81];
+    for c in 0..9 {
+        let w = noise_transposed_column(t, b, c);
+        for r in 0..9 {
+            out[r + c * 9] = w[r];
+        }
     }
-    mat9::times6(t, mat9::row6(b, c))
+    out
 }
 
 // t · bᵀ.
@@ -128,15 +130,10 @@ pub fn times_noise_transposed(t: &[f64; 54], b: &[f64; 54]) -> [f64; 81]
     requires { ⌜ NoiseShape (now b) ⌝ }
     ensures { λ x. ⌜ x ≡ productOf 9 6 9 (now (t .entry)) (transposed 9 6 (now (b .entry))) ⌝ }
 {
-    let finite = mat9::all_finite(t);
-    let mut out = [0.0; 81];
-    for c in 0..9 {
-        let w = times_noise_row(t, b, c, finite);
-        for r in 0..9 {
-            out[r + c * 9] = w[r];
-        }
+    if mat9::all_finite(t) {
+        return finite_times_noise_transposed(t, b);
     }
-    out
+    mat9::mat9x6_mul_transposed(t, b)
 }
 
 // Column c of b · n.
@@ -148,15 +145,19 @@ fn diagonal_column(b: &[f64; 54], n: &[f64; 36], c: usize) -> [f64; 9]
     plus_column([0.0; 9], b, c, own)
 }
 
-// Column c of b · n; `finite` says whether b is.
-fn times_diagonal_column(b: &[f64; 54], n: &[f64; 36], c: usize, finite: bool) -> [f64; 9]
-    requires { ⌜ (c < 6) × DiagonalShape (now n) × (finite ≡ allFinite (now b)) ⌝ }
-    ensures { λ w. ⌜ w ≡ tabulated 9 (λ r. rowTimesColumn 9 6 (now (b .entry)) (now (n .entry)) r c) ⌝ }
+// b · n, of finite numbers.
+fn finite_times_diagonal(b: &[f64; 54], n: &[f64; 36]) -> [f64; 54]
+    requires { ⌜ DiagonalShape (now n) × (allFinite (now b) ≡ true) ⌝ }
+    ensures { λ x. ⌜ x ≡ productOf 9 6 6 (now (b .entry)) (now (n .entry)) ⌝ }
 {
-    if finite {
-        return diagonal_column(b, n, c);
+    let mut out = [0.0; 54];
+    for c in 0..6 {
+        let w = diagonal_column(b, n, c);
+        for r in 0..9 {
+            out[r + c * 9] = w[r];
+        }
     }
-    mat9::times6(b, mat9::column6(n, c))
+    out
 }
 
 // b · n.
@@ -164,15 +165,10 @@ pub fn noise_times_diagonal(b: &[f64; 54], n: &[f64; 36]) -> [f64; 54]
     requires { ⌜ DiagonalShape (now n) ⌝ }
     ensures { λ x. ⌜ x ≡ productOf 9 6 6 (now (b .entry)) (now (n .entry)) ⌝ }
 {
-    let finite = mat9::all_finite(b);
-    let mut out = [0.0; 54];
-    for c in 0..6 {
-        let w = times_diagonal_column(b, n, c, finite);
-        for r in 0..9 {
-            out[r + c * 9] = w[r];
-        }
+    if mat9::all_finite(b) {
+        return finite_times_diagonal(b, n);
     }
-    out
+    mat9::mat9x6_mul_6x6(b, n)
 }
 
 // Column c of a · m: the first three columns of a, then what stands on the diagonal and three rows below it. The length of m is asked for since it is lent whole.
@@ -195,15 +191,19 @@ fn step_column(a: &[f64; 81], m: &[f64; 81], c: usize) -> [f64; 9]
     ]
 }
 
-// Column c of a · m; `finite` says whether m is.
-fn step_times_column(a: &[f64; 81], m: &[f64; 81], c: usize, finite: bool) -> [f64; 9]
-    requires { ⌜ (c < 9) × StepShape (now a) × (finite ≡ allFinite (now m)) × (length (now m) ≡ 81) ⌝ }
-    ensures { λ w. ⌜ w ≡ tabulated 9 (λ r. rowTimesColumn 9 9 (now (a .entry)) (now (m .entry)) r c) ⌝ }
+// a · m, of finite numbers.
+fn step_times_finite(a: &[f64; 81], m: &[f64; 81]) -> [f64; 81]
+    requires { ⌜ StepShape (now a) × (allFinite (now m) ≡ true) × (length (now m) ≡ 81) ⌝ }
+    ensures { λ x. ⌜ x ≡ productOf 9 9 9 (now (a .entry)) (now (m .entry)) ⌝ }
 {
-    if finite {
-        return step_column(a, m, c);
+    let mut out = [0.0; 81];
+    for c in 0..9 {
+        let w = step_column(a, m, c);
+        for r in 0..9 {
+            out[r + c * 9] = w[r];
+        }
     }
-    mat9::times9(a, mat9::column9(m, c))
+    out
 }
 
 // a · m.
@@ -211,13 +211,8 @@ pub fn step_times(a: &[f64; 81], m: &[f64; 81]) -> [f64; 81]
     requires { ⌜ StepShape (now a) ⌝ }
     ensures { λ x. ⌜ x ≡ productOf 9 9 9 (now (a .entry)) (now (m .entry)) ⌝ }
 {
-    let finite = mat9::all_finite(m);
-    let mut out = [0.0; 81];
-    for c in 0..9 {
-        let w = step_times_column(a, m, c, finite);
-        for r in 0..9 {
-            out[r + c * 9] = w[r];
-        }
+    if mat9::all_finite(m) {
+        return step_times_finite(a, m);
     }
-    out
+    mat9::mat9_mul(a, m)
 }

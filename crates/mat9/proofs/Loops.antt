@@ -65,12 +65,6 @@ unfolding tabulated
 tabulated-same zero f g e = refl
 tabulated-same (suc n) f g e = rw (tabulated-same n f g (λ k h. e k (omega arith)), e n (omega arith))
 
--- column c of a · b, by the numbers of column c of b
-pub whole-column : {inner : ℕ} {v : List Float} (a b : List Float) (c : ℕ) (f : ℕ → Float) → v ≡ tabulated inner f → ((k : ℕ) → k < inner → f k ≡ entry inner b k c)
-    → tabulated 9 (λ r. rowTimesColumn 9 inner a v r 0) ≡ tabulated 9 (λ r. rowTimesColumn 9 inner a b r c)
-whole-column {inner} a b c f read same =
-    tabulated-same 9 (λ r. rowTimesColumn 9 inner a _ r 0) (λ r. rowTimesColumn 9 inner a b r c) (λ r h. rw (read, times-column 9 a b r c f same))
-
 -- ---- filled column by column
 
 -- `out`, a matrix of nine rows, is filled up to row r of column c; it goes on as `d`
@@ -86,6 +80,12 @@ pub filled-to-more : {cols r c : ℕ} {f : ℕ → ℕ → Float} {d out : List 
 filled-to-more {cols} {r} {c} {f} {d} {out} {v} w h g e =
     let at : r + 1 + c * 9 ≡ r + c * 9 + 1 = omega arith in
     record { row = omega arith; filled = rw at (filled-more (w .filled) (within h g) (e ∙ sym (cell-at f h))) }
+
+-- a row of a times what was read from a column of b
+pub filled-to-product : {inner cols r c : ℕ} {d out v : List Float} {x : Float} (a b : List Float) (f : ℕ → Float)
+    → FilledTo cols (rowTimesColumn 9 inner a b) d r c out → r < 9 → c < cols → x ≡ rowTimesColumn 9 inner a v r 0 → v ≡ tabulated inner f → ((k : ℕ) → k < inner → f k ≡ entry inner b k c)
+    → FilledTo cols (rowTimesColumn 9 inner a b) d (r + 1) c (set out (r + c * 9) x)
+filled-to-product {r = r} {c = c} a b f w h g e read same = filled-to-more w h g (e ∙ rw (read, times-column 9 a b r c f same))
 
 -- a column that was made whole, and is stored row by row
 pub filled-to-copy : {cols r c : ℕ} {f : ℕ → ℕ → Float} {d out w : List Float}

@@ -1,10 +1,11 @@
 // The 9×9, 9×6 and 6×6 matrices of the inertial covariance: numbers column by column. From the helpers at the end of kornia's imu.rs.
-// Arrays are lent and a result is returned by value, so that no matrix is copied to be read. Their products are in `lean9`.
+// Arrays are lent and a result is returned by value, so that no matrix is copied to be read. A product goes column by column: a column of b is read once, and
+// the nine rows of a, whose numbers stand next to each other, are then summed alike. Every size is a constant, so that no division is left to be done at run time.
 
 ghost use mathlib.Core.Path.{_≡_};
 ghost use Prim.Native.Nat.{_<_};
 ghost use Rattle.number.specs.Tabulated.{tabulated};
-ghost use Rattle.mat9.specs.Matrix.{allFinite, blocks, diagonal6, diagonalRaised, entry, finiteDiagonal, rowTimesColumn, sum as sumOf};
+ghost use Rattle.mat9.specs.Matrix.{allFinite, blocks, diagonal6, diagonalRaised, entry, finiteDiagonal, product as productOf, rowTimesColumn, sum as sumOf, transposed};
 
 // Column c of b.
 pub fn column9(b: &[f64; 81], c: usize) -> [f64; 9]
@@ -26,7 +27,7 @@ pub fn column9(b: &[f64; 81], c: usize) -> [f64; 9]
 }
 
 // Row c of b: what the transpose of b has as column c, read where it stands.
-pub fn row9(b: &[f64; 81], c: usize) -> [f64; 9]
+fn row9(b: &[f64; 81], c: usize) -> [f64; 9]
     requires { ⌜ c < 9 ⌝ }
     ensures { λ x. ⌜ x ≡ tabulated 9 (λ k. entry 9 (now (b .entry)) c k) ⌝ }
 {
@@ -44,7 +45,7 @@ pub fn row9(b: &[f64; 81], c: usize) -> [f64; 9]
 }
 
 // Column c of b.
-pub fn column6(b: &[f64; 36], c: usize) -> [f64; 6]
+fn column6(b: &[f64; 36], c: usize) -> [f64; 6]
     requires { ⌜ c < 6 ⌝ }
     ensures { λ x. ⌜ x ≡ tabulated 6 (λ k. entry 6 (now (b .entry)) k c) ⌝ }
 {
@@ -53,7 +54,7 @@ pub fn column6(b: &[f64; 36], c: usize) -> [f64; 6]
 }
 
 // Row c of b: what the transpose of b has as column c, read where it stands.
-pub fn row6(b: &[f64; 54], c: usize) -> [f64; 6]
+fn row6(b: &[f64; 54], c: usize) -> [f64; 6]
     requires { ⌜ c < 9 ⌝ }
     ensures { λ x. ⌜ x ≡ tabulated 6 (λ k. entry 9 (now (b .entry)) c k) ⌝ }
 {
@@ -100,38 +101,60 @@ fn row_times6(a: &[f64; 54], r: usize, v: [f64; 6]) -> f64
     0.0 + a0 * v[0] + a1 * v[1] + a2 * v[2] + a3 * v[3] + a4 * v[4] + a5 * v[5]
 }
 
-// a · v, a sum from 0 in each row.
-pub fn times9(a: &[f64; 81], v: [f64; 9]) -> [f64; 9]
-    ensures { λ w. ⌜ w ≡ tabulated 9 (λ r. rowTimesColumn 9 9 (now (a .entry)) v r 0) ⌝ }
+// a · b.
+pub fn mat9_mul(a: &[f64; 81], b: &[f64; 81]) -> [f64; 81]
+    ensures { λ x. ⌜ x ≡ productOf 9 9 9 (now (a .entry)) (now (b .entry)) ⌝ }
 {
-    [
-        row_times9(a, 0, v),
-        row_times9(a, 1, v),
-        row_times9(a, 2, v),
-        row_times9(a, 3, v),
-        row_times9(a, 4, v),
-        row_times9(a, 5, v),
-        row_times9(a, 6, v),
-        row_times9(a, 7, v),
-        row_times9(a, 8, v),
-    ]
+    let mut out = [0.0; 81];
+    for c in 0..9 {
+        let v = column9(b, c);
+        for r in 0..9 {
+            out[r + c * 9] = row_times9(a, r, v);
+        }
+    }
+    out
 }
 
-// a · v, a sum from 0 in each row.
-pub fn times6(a: &[f64; 54], v: [f64; 6]) -> [f64; 9]
-    ensures { λ w. ⌜ w ≡ tabulated 9 (λ r. rowTimesColumn 9 6 (now (a .entry)) v r 0) ⌝ }
+// a · bᵀ.
+pub fn mat9_mul_transposed(a: &[f64; 81], b: &[f64; 81]) -> [f64; 81]
+    ensures { λ x. ⌜ x ≡ productOf 9 9 9 (now (a .entry)) (transposed 9 9 (now (b .entry))) ⌝ }
 {
-    [
-        row_times6(a, 0, v),
-        row_times6(a, 1, v),
-        row_times6(a, 2, v),
-        row_times6(a, 3, v),
-        row_times6(a, 4, v),
-        row_times6(a, 5, v),
-        row_times6(a, 6, v),
-        row_times6(a, 7, v),
-        row_times6(a, 8, v),
-    ]
+    let mut out = [0.0; 81];
+    for c in 0..9 {
+        let v = row9(b, c);
+        for r in 0..9 {
+            out[r + c * 9] = row_times9(a, r, v);
+        }
+    }
+    out
+}
+
+// a · b.
+pub fn mat9x6_mul_6x6(a: &[f64; 54], b: &[f64; 36]) -> [f64; 54]
+    ensures { λ x. ⌜ x ≡ productOf 9 6 6 (now (a .entry)) (now (b .entry)) ⌝ }
+{
+    let mut out = [0.0; 54];
+    for c in 0..6 {
+        let v = column6(b, c);
+        for r in 0..9 {
+            out[r + c * 9] = row_times6(a, r, v);
+        }
+    }
+    out
+}
+
+// a · bᵀ.
+pub fn mat9x6_mul_transposed(a: &[f64; 54], b: &[f64; 54]) -> [f64; 81]
+    ensures { λ x. ⌜ x ≡ productOf 9 6 9 (now (a .entry)) (transposed 9 6 (now (b .entry))) ⌝ }
+{
+    let mut out = [0.0; 81];
+    for c in 0..9 {
+        let v = row6(b, c);
+        for r in 0..9 {
+            out[r + c * 9] = row_times6(a, r, v);
+        }
+    }
+    out
 }
 
 // a + b.
