@@ -1,6 +1,6 @@
 // A planar motion with its covariance, and the composing of two.
 ghost use mathlib.Core.Path.{_≡_};
-ghost use Rattle.planar.specs.Compose.{carried as carriedOf, composeOf, composed as composedOf, firstJacobian, shifted as shiftedOf, symmetrized as symmetrizedOf, toldComposed, turnMatrix, wrapped as wrappedOf};
+ghost use Rattle.planar.specs.Compose.{carried as carriedOf, composeOf, composed as composedOf, firstJacobian, symmetrized as symmetrizedOf, toldComposed, turnMatrix, wrapped as wrappedOf};
 ghost use Rattle.planar.specs.Motion.{finiteMotion};
 use number::PI;
 use number::TAU;

@@ -1,6 +1,5 @@
 -- `words::present_at` meets its contract: the law of each turn, for every width, is `proofs/Width.antt`'s. Assumes nothing.
 use native.Mathlib.Omega.{arith}
-use borrow.Author.Needs.{needs}
 use Rattle.words.proofs.Width.{Taken, taken-none, taken-more, taken-fits, taken-all}
 use Rattle.words.proofs.present_at.Statement.{statement}
 use Rattle.words.proofs.present_at.Tie as tie

@@ -1,5 +1,5 @@
 -- `number::float::is_finite` meets its contract: a NaN or an infinity less itself is a NaN, and a finite value less itself is a zero. Assumes nothing.
-use mathlib.Core.Path.{_≡_, refl, ap, _∙_}
+use mathlib.Core.Path.{_≡_, refl}
 use Prim.Native.Nat.{ℕ, _-_, _*_, _<_}
 use native.Mathlib.Nat.{mul-pos}
 use native.Mathlib.Omega.{arith}

@@ -1,5 +1,5 @@
 -- `root::half_root` meets its contract. The invariant: m is below the square of s + 1, and s is at most 2 ^ 28. The measure is s. Assumes nothing.
-use Prim.Native.Nat.{_+_, _*_, _/_, _^_, _≤_, _<_}
+use Prim.Native.Nat.{_+_, _*_, _^_, _≤_, _<_}
 use native.Mathlib.Nat.{le-of-lt, le-trans, div-le-self}
 use native.Mathlib.Omega.{arith}
 use borrow.Author.Needs.{needs}
