@@ -222,14 +222,14 @@ fn inertial_step() {
     line("an inertial step", times);
 }
 
-fn ordering() {
-    let mut flat = samples(4096, 200.0);
-    for i in 0..4096 {
-        // an order that is neither sorted nor periodic: an odd multiplier, modulo 4,096
-        flat[7 * i] = ((i * 2654435761) % 4096) as f64 / 200.0;
+/// 4,096 samples at the times i / 200 s, the i in the order that is handed in.
+fn ordering(name: &str, places: Vec<usize>) {
+    let mut flat = samples(places.len(), 200.0);
+    for (i, place) in places.iter().enumerate() {
+        flat[7 * i] = *place as f64 / 200.0;
     }
     let ms = measurements(&flat);
-    let mut order = vec![0usize; 4096];
+    let mut order = vec![0usize; ms.len()];
     let ours = |order: &mut [usize]| unsafe { latchfern_order(black_box(flat.as_ptr()), flat.len(), 0.0, 100.0, order.as_mut_ptr(), order.len()) };
     ours(&mut order);
     let rust = || {
@@ -245,7 +245,31 @@ fn ordering() {
             black_box(rust());
         },
     );
-    line("an ordering of 4,096 samples", times);
+    line(name, times);
+}
+
+/// The numbers below n, exchanged at random places: a generator of 64 bits with a fixed start.
+fn shuffled(n: usize) -> Vec<usize> {
+    let mut places: Vec<usize> = (0..n).collect();
+    let mut state = 1u64;
+    for i in (1..n).rev() {
+        state = state.wrapping_mul(6364136223846793005).wrapping_add(1442695040888963407);
+        places.swap(i, (state >> 33) as usize % (i + 1));
+    }
+    places
+}
+
+fn orderings() {
+    ordering("an ordering of 4,096 samples, a fixed step apart", (0..4096).map(|i| (i * 2654435761) % 4096).collect());
+    ordering("the same, at random", shuffled(4096));
+    ordering("the same, eight out of place", {
+        let mut places: Vec<usize> = (0..4096).collect();
+        for k in 0..4 {
+            places.swap(1000 * k + 7, 1000 * k + 500);
+        }
+        places
+    });
+    ordering("the same, in order", (0..4096).collect());
 }
 
 // ---- small calls, a thousand at a time
@@ -286,7 +310,7 @@ fn main() {
     wheel_steps("a wheel step at 10 Hz", 10.0);
     replay();
     inertial_step();
-    ordering();
+    orderings();
     information();
     numbers();
 }
