@@ -138,6 +138,10 @@ def roots():
         # beside the square of an f64, and beside that of the midpoint of two
         xs += around(nearest(n * n), 1) + around(nearest((n + Fraction(1, 2)) ** 2), 1)
     xs += [random_from(1, LARGEST) for _ in range(300)] + [random_from(1, SMALLEST) for _ in range(30)]
+    # beside the powers of 4, where the root moves half as fast, near and less near
+    for power_of_four in (1, 4, Fraction(1, 4), 4**400, Fraction(1, 4**400)):
+        for d in (0, 1, 2, 3, 4, 5, 99, 100, 2**25 - 1, 2**25, 2**25 + 1, 2**26 - 1, 2**26, 2**26 + 1, 2**26 + 2, 2**27, 2**27 + 1):
+            xs += [nearest(power_of_four) - d, nearest(power_of_four) + d]
     below = [SIGN + 1, SIGN + SMALLEST - 1, SIGN + SMALLEST, SIGN + nearest(1), SIGN + LARGEST, SIGN + INF]
     below += [SIGN + random_from(1, LARGEST) for _ in range(30)]
     return [(3, x, 0, root(x)) for x in xs] + [(3, x, 2) for x in below + NANS]

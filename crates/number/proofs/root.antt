@@ -1,4 +1,5 @@
 mod Newton
+mod Near
 mod Extend
 mod Halves
 mod Values

@@ -37,7 +37,7 @@ fn half_root(m: u64) -> u64
 }
 
 // The largest q with q * q <= m * 2^54: the root of m, and 27 more binary digits of it by one division.
-fn whole_root(m: u64) -> u64
+fn divided_root(m: u64) -> u64
     requires { ⌜ (2 ^ 52 ≤ m) × (m + 2 ≤ 2 ^ 54) ⌝ }
     ensures { λ q. ⌜ Floor (m * 2 ^ 54) q ⌝ }
 {
@@ -47,6 +47,24 @@ fn whole_root(m: u64) -> u64
     let u = d % (2 * s);
     let q = s * 0x800_0000 + t;
     if t * t <= u * 0x800_0000 { q } else { q - 1 }
+}
+
+// The largest q with q * q <= m * 2^54. Within 2^26 of 2^52 or of 2^54 the root moves by half of what m moves, to the last digit, so that it takes no division:
+// the square of a length that is nearly 1 is such a number, and so is one near any other power of 4.
+fn whole_root(m: u64) -> u64
+    requires { ⌜ (2 ^ 52 ≤ m) × (m + 2 ≤ 2 ^ 54) ⌝ }
+    ensures { λ q. ⌜ Floor (m * 2 ^ 54) q ⌝ }
+{
+    if m == 0x10_0000_0000_0000 {
+        return 0x20_0000_0000_0000;
+    }
+    if m <= 0x10_0000_0400_0000 {
+        return m + 0xf_ffff_ffff_ffff;
+    }
+    if 0x3f_ffff_fc00_0000 <= m {
+        return 0x3f_ffff_ffff_ffff - (0x40_0000_0000_0000 - m) / 2;
+    }
+    divided_root(m)
 }
 
 // The number m * 4^h.
