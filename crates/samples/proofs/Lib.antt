@@ -1,10 +1,4 @@
--- Laws that belong to no one function: sorting by merging and by insertion, the loops that merge, insert, choose and find whether keys rise, and what
--- the order of a window is.
-pub mod Parts
-pub mod Sorted
-pub mod Merging
-pub mod Rising
-pub mod Inserting
+-- Laws that belong to no one function: the loops that count and choose the window's samples, the keys of all samples, and what the order of a window is.
 pub mod Choosing
 pub mod Accepted
 pub mod Keys

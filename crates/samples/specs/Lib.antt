@@ -2,4 +2,3 @@
 pub mod Samples
 pub mod Order
 pub mod Window
-pub mod Merge
