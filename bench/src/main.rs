@@ -270,6 +270,7 @@ fn orderings() {
         places
     });
     ordering("the same, in order", (0..4096).collect());
+    ordering("the same, backwards", (0..4096).rev().collect());
 }
 
 // ---- small calls, a thousand at a time
