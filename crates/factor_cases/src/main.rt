@@ -1,97 +1,75 @@
 // Asks the wheel and still factors by the records of standard input, and writes what each answers, in bits, a blank beside a refusal too. A
 // record is its kind and what goes in, each a little-endian word of 64 bits. tools/factor_cases.py makes the input and the expected output.
-use inertial::ImuCalib;
-use libc::STDIN_FILENO;
-use libc::STDOUT_FILENO;
+//
+//    1  a group of cases begins: its number
+//    2  every way to make a wheel measurement, and its planar part: delta 3, covariance 9, sigmas 2
+//    3  the information of one; 4 two of them composed
+//    5  a wheel factor: from, to, a measurement, two extrinsics (rotation 9, translation 3), a limit; 6 whether it is valid; 7 two composed
+//    8  a still factor as it is made, and with a gyro mean: from, to, span, densities 4, mean 3, seconds covered
+//    9  the information of one: from, to, span, whether there is a mean (1), mean 3, seconds covered, densities 4, sigmas 3, a limit
+//   10  two of them composed
+//   11  two limits joined, each whether there is one (1), and which
 use planar::PlanarMotion;
 use robust::Huber;
 use stationary::GyroMean;
-use stationary::GyroRow;
 use stationary::Joined;
 use stationary::StationaryFactor;
 use stationary::StationaryGyro;
-use stationary::StationaryInfo;
+use stationary_information::GyroRow;
+use stationary_information::StationaryInfo;
 use wheel_odom::Extrinsic;
 use wheel_odom::Information;
 use wheel_odom::Outcome;
 use wheel_odom::WheelOdomFactor;
 use wheel_odom::WheelOdomMeasurement;
 
-fn main() {
-    ask_all();
-}
-
 // A proved loop has to end, and nothing says that the input does. So the loop counts its turns down, from a number that no run uses up.
-fn ask_all() {
+fn main() {
     let mut turns = u64::MAX;
     while turns > 0 {
-        if !has_asked() {
+        let kind = cases::read_word();
+        if kind == 0 {
             return;
         }
+        ask(kind);
+        cases::end_line();
         turns -= 1;
     }
 }
 
-// Asks by the next record, if there is one.
-fn has_asked() -> bool {
-    let mut s = [0u8; 8];
-    if io::read_full(STDIN_FILENO, &mut s) < 8 {
-        return false;
-    }
-    ask(words::u64_at(&s, 0));
-    write(b"\n");
-    true
-}
-
 fn ask(kind: u64) {
     match kind {
-        1 => ask_group(),
+        1 => cases::begin_group(),
         2 => ask_measurements(),
         3 => ask_information(),
         4 => ask_composed(),
         5 => ask_factor(),
         6 => ask_factor_valid(),
         7 => ask_factors_composed(),
-        _ => ask_still(kind),
-    }
-}
-
-fn ask_still(kind: u64) {
-    match kind {
         8 => ask_still_factor(),
         9 => ask_still_information(),
         10 => ask_still_composed(),
         11 => ask_limits_joined(),
-        _ => write(b"no such kind"),
+        _ => cases::write(b"no such kind"),
     }
-}
-
-// The number of the group of cases that begins here.
-fn ask_group() {
-    write(b"group ");
-    io::print_decimal(STDOUT_FILENO, read_word());
 }
 
 // ---- wheel measurements
 
-// Every way to make one, and its planar part.
 fn ask_measurements() {
-    let delta = read_three();
-    let covariance = read_nine();
-    let z_sigma = read_f64();
-    let tilt_sigma = read_f64();
+    let full = read_measurement();
+    let delta = full.delta;
+    let covariance = full.covariance;
+    let moved = WheelOdomMeasurement::from_motion(full.planar_motion());
     let plain = WheelOdomMeasurement::new(delta, covariance);
-    let full = plain.with_out_of_plane_sigmas(z_sigma, tilt_sigma);
-    let moved = WheelOdomMeasurement::from_motion(PlanarMotion { delta, covariance });
-    let planar = full.planar_motion();
-    write(b"new");
+    cases::write(b"new");
     print_measurement(plain);
-    write(b"\nwith sigmas");
-    print_measurement(full);
-    write(b"\nfrom motion");
+    cases::write(b"\nwith sigmas");
+    print_measurement(plain.with_out_of_plane_sigmas(full.z_sigma, full.tilt_sigma));
+    cases::write(b"\nfrom motion");
     print_measurement(moved);
-    write(b"\nplanar motion");
-    print_motion(planar);
+    cases::write(b"\nplanar motion");
+    print_motion(full.planar_motion());
 }
 
 fn ask_information() {
@@ -99,93 +77,88 @@ fn ask_information() {
     let informed = m.information();
     let outcome = informed.outcome;
     let matrix = informed.matrix;
-    write(b"information ");
-    print_informed(outcome);
-    print_36(matrix);
+    cases::write(b"information ");
+    match outcome {
+        Information::Given => cases::write(b"given"),
+        Information::NoInformation => cases::print_refused(9),
+        Information::AngleRange => cases::print_refused(8),
+        Information::NonFinite => cases::print_refused(2),
+    }
+    cases::print_numbers(&matrix);
 }
 
 fn ask_composed() {
     let first = read_measurement();
-    let second = read_measurement();
-    let composed = first.compose(second);
+    let composed = first.compose(read_measurement());
     let outcome = composed.outcome;
-    let m = composed.measurement;
-    write(b"composed ");
+    cases::write(b"composed ");
     print_outcome(outcome);
-    print_measurement(m);
+    print_measurement(composed.measurement);
 }
 
 // ---- wheel factors
 
 fn ask_factor() {
-    let f = read_factor();
-    write(b"factor");
-    print_factor(f);
+    cases::write(b"factor");
+    print_factor(read_factor());
 }
 
 fn ask_factor_valid() {
     let f = read_factor();
-    write(b"factor ");
+    cases::write(b"factor ");
     print_valid(f.is_valid());
 }
 
 fn ask_factors_composed() {
     let first = read_factor();
-    let second = read_factor();
-    let composed = first.compose(second);
+    let composed = first.compose(read_factor());
     let outcome = composed.outcome;
-    let f = composed.factor;
-    write(b"factors ");
+    cases::write(b"factors ");
     print_outcome(outcome);
-    print_factor(f);
+    print_factor(composed.factor);
 }
 
 // ---- still factors
 
-// A factor as it is made, and with a gyro mean.
 fn ask_still_factor() {
-    let from_idx = read_index();
-    let to_idx = read_index();
-    let span_s = read_f64();
-    let calib = read_calib();
+    let from_idx = cases::read_word() as usize;
+    let to_idx = cases::read_word() as usize;
+    let span_s = cases::read_f64();
+    let calib = cases::read_calib();
     let gyro = read_gyro();
     let f = StationaryFactor::new(from_idx, to_idx, span_s, calib);
-    let g = f.with_gyro(gyro);
-    write(b"still new");
+    cases::write(b"still new");
     print_still(f);
-    write(b"\nstill with gyro");
-    print_still(g);
+    cases::write(b"\nstill with gyro");
+    print_still(f.with_gyro(gyro));
 }
 
 fn ask_still_information() {
     let f = read_still();
-    let informed = f.information();
+    let informed = stationary_information::information(f);
     let outcome = informed.outcome;
-    let info = informed.info;
-    write(b"still ");
+    cases::write(b"still ");
     print_valid(f.is_valid());
-    write(b" information ");
+    cases::write(b" information ");
     match outcome {
-        stationary::Outcome::Given => write(b"given"),
-        stationary::Outcome::InvalidFactor => write(b"refused 11"),
-        stationary::Outcome::NonFinite => write(b"refused 2"),
+        stationary_information::Outcome::Given => cases::write(b"given"),
+        stationary_information::Outcome::InvalidFactor => cases::print_refused(11),
+        stationary_information::Outcome::NonFinite => cases::print_refused(2),
     }
-    print_info(info);
+    print_info(informed.info);
 }
 
 fn ask_still_composed() {
     let first = read_still();
-    let second = read_still();
-    let joined = first.compose(second);
-    write(b"still composed ");
-    match joined {
+    cases::write(b"still composed ");
+    match first.compose(read_still()) {
         Joined::Factor(f) => {
-            write(b"accepted");
+            cases::write(b"accepted");
             print_still(f);
         }
-        Joined::InvalidFactor => write(b"refused 11"),
-        Joined::NotJoined => write(b"refused 10"),
-        Joined::NonFinite => write(b"refused 2"),
+        Joined::InvalidFactor => cases::print_refused(11),
+        Joined::NotJoined => cases::print_refused(10),
+        Joined::NonFinite => cases::print_refused(2),
     }
 }
 
@@ -193,50 +166,20 @@ fn ask_still_composed() {
 
 fn ask_limits_joined() {
     let first = read_limit();
-    let second = read_limit();
-    let joined = first.joined(second);
-    write(b"joined");
+    let joined = first.joined(read_limit());
+    cases::write(b"joined");
     print_limit(joined);
-    write(b" ");
+    cases::write(b" ");
     print_valid(joined.is_valid());
 }
 
-// ---- what a record holds, word by word
-
-fn read_word() -> u64 {
-    let mut s = [0u8; 8];
-    io::read_full(STDIN_FILENO, &mut s);
-    words::u64_at(&s, 0)
-}
-
-fn read_f64() -> f64 {
-    words::of_bits(read_word())
-}
-
-fn read_index() -> usize {
-    read_word() as usize
-}
-
-fn read_three() -> [f64; 3] {
-    let a = read_f64();
-    let b = read_f64();
-    let c = read_f64();
-    [a, b, c]
-}
-
-// A matrix, column by column.
-fn read_nine() -> [f64; 9] {
-    let a = read_three();
-    let b = read_three();
-    let c = read_three();
-    [a[0], a[1], a[2], b[0], b[1], b[2], c[0], c[1], c[2]]
-}
+// ---- what a record holds
 
 fn read_measurement() -> WheelOdomMeasurement {
-    let delta = read_three();
-    let covariance = read_nine();
-    let z_sigma = read_f64();
-    let tilt_sigma = read_f64();
+    let delta = cases::read_three();
+    let covariance = cases::read_nine();
+    let z_sigma = cases::read_f64();
+    let tilt_sigma = cases::read_f64();
     WheelOdomMeasurement {
         delta,
         covariance,
@@ -246,8 +189,8 @@ fn read_measurement() -> WheelOdomMeasurement {
 }
 
 fn read_extrinsic() -> Extrinsic {
-    let rotation = read_nine();
-    let translation = read_three();
+    let rotation = cases::read_nine();
+    let translation = cases::read_three();
     Extrinsic {
         rotation,
         translation,
@@ -255,8 +198,8 @@ fn read_extrinsic() -> Extrinsic {
 }
 
 fn read_factor() -> WheelOdomFactor {
-    let from_idx = read_index();
-    let to_idx = read_index();
+    let from_idx = cases::read_word() as usize;
+    let to_idx = cases::read_word() as usize;
     let measurement = read_measurement();
     let t_cb_from = read_extrinsic();
     let t_cb_to = read_extrinsic();
@@ -271,56 +214,42 @@ fn read_factor() -> WheelOdomFactor {
     )
 }
 
-// Whether there is one (1), and which.
 fn read_limit() -> Huber {
-    let flag = read_word();
-    let limit = read_f64();
-    if flag == 1 {
-        return Huber::Limit(limit);
-    }
-    Huber::Absent
-}
-
-fn read_calib() -> ImuCalib {
-    let gyro_noise = read_f64();
-    let accel_noise = read_f64();
-    let gyro_bias_noise = read_f64();
-    let accel_bias_noise = read_f64();
-    ImuCalib {
-        gyro_noise,
-        accel_noise,
-        gyro_bias_noise,
-        accel_bias_noise,
+    let is_there = cases::is_word(1);
+    let limit = cases::read_f64();
+    if is_there {
+        Huber::Limit(limit)
+    } else {
+        Huber::Absent
     }
 }
 
 fn read_gyro() -> StationaryGyro {
-    let x = read_f64();
-    let y = read_f64();
-    let z = read_f64();
-    let covered_s = read_f64();
-    StationaryGyro::new(x, y, z, covered_s)
+    let x = cases::read_f64();
+    let y = cases::read_f64();
+    let z = cases::read_f64();
+    StationaryGyro::new(x, y, z, cases::read_f64())
 }
 
-// Whether there is one (1), and which.
 fn read_mean() -> GyroMean {
-    let flag = read_word();
+    let is_there = cases::is_word(1);
     let gyro = read_gyro();
-    if flag == 1 {
-        return GyroMean::Measured(gyro);
+    if is_there {
+        GyroMean::Measured(gyro)
+    } else {
+        GyroMean::Unmeasured
     }
-    GyroMean::Unmeasured
 }
 
 fn read_still() -> StationaryFactor {
-    let from_idx = read_index();
-    let to_idx = read_index();
-    let span_s = read_f64();
+    let from_idx = cases::read_word() as usize;
+    let to_idx = cases::read_word() as usize;
+    let span_s = cases::read_f64();
     let gyro = read_mean();
-    let calib = read_calib();
-    let translation_sigma_m = read_f64();
-    let rotation_sigma_rad = read_f64();
-    let velocity_sigma_m_s = read_f64();
+    let calib = cases::read_calib();
+    let translation_sigma_m = cases::read_f64();
+    let rotation_sigma_rad = cases::read_f64();
+    let velocity_sigma_m_s = cases::read_f64();
     let huber_chi2 = read_limit();
     StationaryFactor {
         from_idx,
@@ -337,46 +266,36 @@ fn read_still() -> StationaryFactor {
 
 // ---- text
 
-fn print_informed(outcome: Information) {
-    match outcome {
-        Information::Given => write(b"given"),
-        Information::NoInformation => write(b"refused 9"),
-        Information::AngleRange => write(b"refused 8"),
-        Information::NonFinite => write(b"refused 2"),
-    }
-}
-
 fn print_outcome(outcome: Outcome) {
     match outcome {
-        Outcome::Accepted => write(b"accepted"),
-        Outcome::NonFinite => write(b"refused 2"),
-        Outcome::AngleRange => write(b"refused 8"),
-        Outcome::NotJoined => write(b"refused 10"),
+        Outcome::Accepted => cases::write(b"accepted"),
+        Outcome::NonFinite => cases::print_refused(2),
+        Outcome::AngleRange => cases::print_refused(8),
+        Outcome::NotJoined => cases::print_refused(10),
     }
 }
 
 fn print_valid(is_valid: bool) {
-    if is_valid {
-        write(b"valid");
-    } else {
-        write(b"invalid");
+    if !is_valid {
+        cases::write(b"in");
     }
+    cases::write(b"valid");
 }
 
 fn print_motion(motion: PlanarMotion) {
     let delta = motion.delta;
     let covariance = motion.covariance;
-    write(b" delta");
-    print_three(delta[0], delta[1], delta[2]);
-    write(b" covariance");
-    print_nine(covariance);
+    cases::write(b" delta");
+    cases::print_three(delta);
+    cases::write(b" covariance");
+    cases::print_nine(covariance);
 }
 
 fn print_measurement(m: WheelOdomMeasurement) {
     print_motion(m.planar_motion());
-    write(b" sigmas");
-    print_f64(m.z_sigma);
-    print_f64(m.tilt_sigma);
+    cases::write(b" sigmas");
+    cases::print_f64(m.z_sigma);
+    cases::print_f64(m.tilt_sigma);
 }
 
 fn print_factor(f: WheelOdomFactor) {
@@ -392,27 +311,27 @@ fn print_factor(f: WheelOdomFactor) {
 }
 
 fn print_ends(from: usize, to: usize) {
-    write(b" from");
-    print_word(from as u64);
-    write(b" to");
-    print_word(to as u64);
+    cases::write(b" from");
+    cases::print_bits(from as u64);
+    cases::write(b" to");
+    cases::print_bits(to as u64);
 }
 
 fn print_extrinsic(t: Extrinsic) {
     let rotation = t.rotation;
     let translation = t.translation;
-    write(b" rotation");
-    print_nine(rotation);
-    write(b" translation");
-    print_three(translation[0], translation[1], translation[2]);
+    cases::write(b" rotation");
+    cases::print_nine(rotation);
+    cases::write(b" translation");
+    cases::print_three(translation);
 }
 
 fn print_limit(limit: Huber) {
     match limit {
-        Huber::Absent => write(b" no limit"),
+        Huber::Absent => cases::write(b" no limit"),
         Huber::Limit(k) => {
-            write(b" limit");
-            print_f64(k);
+            cases::write(b" limit");
+            cases::print_f64(k);
         }
     }
 }
@@ -422,88 +341,44 @@ fn print_still(f: StationaryFactor) {
     let calib = f.calib;
     let limit = f.huber_chi2;
     print_ends(f.from_idx, f.to_idx);
-    write(b" span");
-    print_f64(f.span_s);
+    cases::write(b" span");
+    cases::print_f64(f.span_s);
     print_mean(gyro);
-    write(b" calibration");
-    print_f64(calib.gyro_noise);
-    print_f64(calib.accel_noise);
-    print_f64(calib.gyro_bias_noise);
-    print_f64(calib.accel_bias_noise);
-    write(b" sigmas");
-    print_three(
-        f.translation_sigma_m,
-        f.rotation_sigma_rad,
-        f.velocity_sigma_m_s,
-    );
+    cases::write(b" calibration");
+    cases::print_calib(calib);
+    cases::write(b" sigmas");
+    cases::print_f64(f.translation_sigma_m);
+    cases::print_f64(f.rotation_sigma_rad);
+    cases::print_f64(f.velocity_sigma_m_s);
     print_limit(limit);
 }
 
 fn print_mean(mean: GyroMean) {
     match mean {
-        GyroMean::Unmeasured => write(b" no mean"),
-        GyroMean::Measured(g) => {
-            write(b" mean");
-            print_gyro(g);
-        }
+        GyroMean::Unmeasured => cases::write(b" no mean"),
+        GyroMean::Measured(g) => print_gyro(b" mean", g),
     }
 }
 
-fn print_gyro(g: StationaryGyro) {
-    print_three(g.x, g.y, g.z);
-    write(b" over");
-    print_f64(g.covered_s);
+fn print_gyro(name: &[u8], g: StationaryGyro) {
+    cases::write(name);
+    cases::print_three([g.x, g.y, g.z]);
+    cases::write(b" over");
+    cases::print_f64(g.covered_s);
 }
 
 fn print_info(info: StationaryInfo) {
     let pose = info.pose;
     let row = info.gyro_mean;
-    write(b" pose");
-    print_36(pose);
-    write(b" others");
-    print_three(info.velocity, info.gyro_bias, info.accel_bias);
+    cases::write(b" pose");
+    cases::print_numbers(&pose);
+    cases::write(b" others");
+    cases::print_three([info.velocity, info.gyro_bias, info.accel_bias]);
     match row {
-        GyroRow::NoRow => write(b" no row"),
+        GyroRow::NoRow => cases::write(b" no row"),
         GyroRow::Row(g, information) => {
-            write(b" row");
-            print_gyro(g);
-            print_f64(information);
+            print_gyro(b" row", g);
+            cases::print_f64(information);
         }
     }
-}
-
-// ---- numbers
-
-fn print_36(m: [f64; 36]) {
-    let mut i = 0;
-    while i < 36 {
-        print_f64(m[i]);
-        i += 1;
-    }
-}
-
-fn print_nine(m: [f64; 9]) {
-    print_three(m[0], m[1], m[2]);
-    print_three(m[3], m[4], m[5]);
-    print_three(m[6], m[7], m[8]);
-}
-
-fn print_three(x: f64, y: f64, z: f64) {
-    print_f64(x);
-    print_f64(y);
-    print_f64(z);
-}
-
-fn print_f64(x: f64) {
-    print_word(words::to_bits(x));
-}
-
-// A space, and the bits in hexadecimal.
-fn print_word(bits: u64) {
-    write(b" ");
-    io::print_hex(STDOUT_FILENO, bits, 16);
-}
-
-fn write(text: &[u8]) {
-    io::write_all(STDOUT_FILENO, text);
 }

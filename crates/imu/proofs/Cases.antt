@@ -1,23 +1,14 @@
 -- What an inertial call says in 01's numbers, and the value beside it, determine the answer: the case is read back from the number. Assumes nothing.
-use mathlib.Core.Path.{_≡_, refl, sym, ap, _∙_}
-use mathlib.Core.List.{List}
+use mathlib.Core.Path.{_≡_, refl, ap}
 use lib.Dec.{eqb}
-use lib.Ieee.{Float}
 use Rattle.number.specs.Float.{_when_else_}
 use Rattle.number.specs.Said.{Said, gives, refused, Told}
-use Rattle.imu.specs.declared.answer.Outcome.{Outcome}
-use Rattle.imu.specs.declared.answer.Outcome.the-variants as O
-use Rattle.imu.specs.declared.state.Integrated.{Integrated}
-use Rattle.imu.specs.declared.state.PreintegratedImu.{PreintegratedImu}
-use Rattle.imu.specs.declared.batch.Batch.{Batch}
-use Rattle.imu.specs.declared.correction.CorrectedRotation.{CorrectedRotation}
-use Rattle.imu.specs.declared.correction.CorrectedVector.{CorrectedVector}
-use Rattle.imu.specs.declared.correction.Predicted.{Predicted}
-use Rattle.imu.specs.declared.correction.Prediction.{Prediction}
-use Rattle.imu.specs.Answers.{saidOutcome}
+use Rattle.number.proofs.Cases.{determined}
+use Rattle.imu.specs.declared.Outcome.{Outcome}
+use Rattle.imu.specs.declared.Outcome.the-variants as O
+use Rattle.imu.specs.declared.Integrated.{Integrated}
+use Rattle.imu.specs.Answers.{saidOutcome, toldWith}
 use Rattle.imu.specs.State.{toldIntegrated}
-use Rattle.imu.specs.Batch.{Batched, toldBatch}
-use Rattle.imu.specs.Correction.{toldPredicted, toldRotation, toldVector}
 
 -- the case that has the number
 abbrev caseOf : Said (Unit {0}) → Outcome
@@ -44,29 +35,11 @@ read-back O.TooMany = refl
 read-back O.NoRoom = refl
 
 pub outcome-determined : (a b : Outcome) → saidOutcome a ≡ saidOutcome b → a ≡ b
-outcome-determined a b e = sym (read-back a) ∙ ap caseOf e ∙ read-back b
+outcome-determined = determined saidOutcome caseOf read-back
+
+-- of an answer that is an outcome beside a value: what it says has the same outcome
+pub same-outcome : {A : Type 0} (a b : Outcome) (x y : A) → toldWith a x ≡ toldWith b y → a ≡ b
+same-outcome {A} a b x y e = outcome-determined a b (ap (λ (t : Told A). t .outcome) e)
 
 pub integrated-determined : (a b : Integrated) → toldIntegrated a ≡ toldIntegrated b → a ≡ b
-integrated-determined a b e =
-    let same = outcome-determined (a .outcome) (b .outcome) (ap (λ (t : Told PreintegratedImu). t .outcome) e) in
-    λ i. record { outcome = same i; state = e i .value }
-
-pub rotation-determined : (a b : CorrectedRotation) → toldRotation a ≡ toldRotation b → a ≡ b
-rotation-determined a b e =
-    let same = outcome-determined (a .outcome) (b .outcome) (ap (λ (t : Told (List Float)). t .outcome) e) in
-    λ i. record { outcome = same i; rotation = e i .value }
-
-pub vector-determined : (a b : CorrectedVector) → toldVector a ≡ toldVector b → a ≡ b
-vector-determined a b e =
-    let same = outcome-determined (a .outcome) (b .outcome) (ap (λ (t : Told (List Float)). t .outcome) e) in
-    λ i. record { outcome = same i; vector = e i .value }
-
-pub predicted-determined : (a b : Predicted) → toldPredicted a ≡ toldPredicted b → a ≡ b
-predicted-determined a b e =
-    let same = outcome-determined (a .outcome) (b .outcome) (ap (λ (t : Told Prediction). t .outcome) e) in
-    λ i. record { outcome = same i; state = e i .value }
-
-pub batch-determined : (a b : Batch) → toldBatch a ≡ toldBatch b → a ≡ b
-batch-determined a b e =
-    let same = outcome-determined (a .outcome) (b .outcome) (ap (λ (t : Batched). t .outcome) e) in
-    λ i. record { outcome = same i; index = e i .index; state = e i .value }
+integrated-determined a b e = let same = same-outcome (a .outcome) (b .outcome) (a .state) (b .state) e in λ i. record { outcome = same i; state = e i .value }

@@ -12,17 +12,18 @@ use lib.Ieee.{Float, binary64, fits}
 use Rattle.number.specs.Float.{_⊕_, _<ᶠ_, _≤ᶠ_, _=ᶠ_, _when_else_, finite}
 use Rattle.number.specs.Constants.{zero as +0}
 use Rattle.number.specs.Said.{gives, refused, Told, accepts, refuses}
-use Rattle.number.specs.Turn.{aboveFour}
+use Rattle.sincos.specs.Turn.{aboveFour}
 use Rattle.number.proofs.float.Commute.{⊕-commutes}
 use Rattle.number.proofs.float.Monotone.{≤ᶠ-transitive, ⊕-monotone, finite-no-nan, not-below}
 use Rattle.number.proofs.float.Parts.{finite-sum}
 use Rattle.number.proofs.float.SameNumber.{signed, zero-plus}
-use Rattle.mat3.specs.Matrix.{finiteMatrix, finiteVector}
+use Rattle.mat3.specs.Matrix.{finiteMatrix}
+use Rattle.vec3.specs.Vector.{finiteVector}
 use Rattle.mat9.specs.Matrix.{allFinite}
 use Rattle.inertial.specs.declared.ImuMeasurement.{ImuMeasurement}
-use Rattle.imu.specs.declared.state.PreintegratedImu.{PreintegratedImu}
+use Rattle.imu.specs.declared.PreintegratedImu.{PreintegratedImu}
 use Rattle.imu.specs.State.{finiteBias, finiteCalib, finiteJacobians, finiteMeasurement, finiteMotion, finiteState}
-use Rattle.imu.specs.Step.{advanced, advancedBy, angleIn, stepOf}
+use Rattle.imu.specs.Step.{advanced, advancedBy, advancedWith, angleIn, stepOf}
 
 -- ---- the answers
 
@@ -117,7 +118,7 @@ not-below-sum x y f p q h =
     rw (⊕-commutes x y) (≤ᶠ-transitive x (+0 ⊕ x) (y ⊕ x) (zero-plus x (signed false refl) f p .at-least) (⊕-monotone +0 y x zero-finite q p up))
 
 pub advanced-no-earlier : (s : PreintegratedImu) (m : ImuMeasurement) (dt : Float) → T (fits binary64 (s .dt)) → Taken s m dt → (s .dt ≤ᶠ advanced s m dt .dt) ≡ true
-unfolding advanced advancedBy
+unfolding advanced advancedBy advancedWith
 advanced-no-earlier s m dt f t = not-below-sum (s .dt) dt f (finite-sum (s .dt) dt (finite-time (advanced s m dt) (t .result-finite)) .0) (t .time-finite) (t .not-before)
 
 pub time-never-falls : (s : PreintegratedImu) (m : ImuMeasurement) (dt : Float) → T (fits binary64 (s .dt)) → stepOf s m dt .outcome ≡ gives tt → (s .dt ≤ᶠ stepOf s m dt .value .dt) ≡ true

@@ -2,4 +2,4 @@
 pub mod Cases
 pub mod Laws
 pub mod Runs
-mod Outcomes
+pub mod Outcomes

@@ -1,3 +1,2 @@
-pub mod Answers
 pub mod Advanced
-mod Shapes
+pub mod Lean

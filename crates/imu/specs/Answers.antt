@@ -1,8 +1,8 @@
 -- 01, Refusal numbers: the number of every case of an inertial answer.
 use mathlib.Core.Bool.{Bool, true, false}
 use Rattle.number.specs.Said.{Said, gives, refused, refusal, Told}
-use Rattle.imu.specs.declared.answer.Outcome.{Outcome}
-use Rattle.imu.specs.declared.answer.Outcome.the-variants as O
+use Rattle.imu.specs.declared.Outcome.{Outcome}
+use Rattle.imu.specs.declared.Outcome.the-variants as O
 
 abbrev pub saidOutcome : Outcome → Said (Unit {0})
 saidOutcome O.Accepted = gives tt

@@ -1,8 +1,5 @@
--- 01, Inertial accumulation.
+-- 01, Inertial accumulation: the state, and one step.
 pub mod Answers
+pub mod Lean
 pub mod State
-pub mod Rotation
 pub mod Step
-pub mod Correction
-pub mod Batch
-pub mod Window

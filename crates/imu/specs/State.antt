@@ -7,13 +7,14 @@ use Rattle.number.specs.Float.{_⊗_, _when_else_, finite}
 use Rattle.number.specs.Constants.{zero as +0}
 use Rattle.number.specs.Fit.{finiteNotNegative, finitePositive}
 use Rattle.number.specs.Said.{Told, accepts, refuses}
-use Rattle.mat3.specs.Matrix.{zeros, identity, zeroVector, finiteVector, finiteMatrix}
+use Rattle.mat3.specs.Matrix.{zeros, identity, finiteMatrix}
+use Rattle.vec3.specs.Vector.{zeroVector, finiteVector}
 use Rattle.mat9.specs.Matrix.{allFinite, diagonalRaised, finiteDiagonal}
 use Rattle.inertial.specs.declared.ImuMeasurement.{ImuMeasurement}
 use Rattle.inertial.specs.declared.ImuBias.{ImuBias}
 use Rattle.inertial.specs.declared.ImuCalib.{ImuCalib}
-use Rattle.imu.specs.declared.state.PreintegratedImu.{PreintegratedImu}
-use Rattle.imu.specs.declared.state.Integrated.{Integrated}
+use Rattle.imu.specs.declared.PreintegratedImu.{PreintegratedImu}
+use Rattle.imu.specs.declared.Integrated.{Integrated}
 use Rattle.imu.specs.Answers.{toldWith}
 
 -- ---- making one
@@ -61,8 +62,8 @@ blank = record {
 }
 
 -- 01, Refusal numbers, 6: "a noise number not finite or below 0"
-unfoldable pub fitCalib : ImuCalib → Bool
-fitCalib c =
+unfoldable pub validCalib : ImuCalib → Bool
+validCalib c =
     finiteNotNegative (c .«gyro_noise»)
     && finiteNotNegative (c .«accel_noise»)
     && finiteNotNegative (c .«gyro_bias_noise»)
@@ -74,7 +75,7 @@ finiteBias b = finiteVector (b .gyro) && finiteVector (b .accel)
 -- "Making one: 6 for densities, then 2 for biases."
 unfoldable pub makeOf : ImuBias → ImuCalib → Told PreintegratedImu
 makeOf b c =
-    refuses 6 blank when not (fitCalib c) else
+    refuses 6 blank when not (validCalib c) else
     refuses 2 blank when not (finiteBias b) else
     accepts (fresh b c)
 

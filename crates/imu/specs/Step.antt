@@ -1,31 +1,19 @@
--- 01, Inertial accumulation: one step. "Update order as in the file; the 9×9 and 9×6 sums start from 0."
---
--- In the file's words, each with values from before the step:
---   position  Δp + Δv·dt + ½·ΔR·a·dt²
---   velocity  Δv + ΔR·a·dt
---   rotation  ΔR · exp((ω − bg)·dt)
---   C' = A·C·Aᵀ + B·N·Bᵀ
+-- 01, Inertial accumulation: one step. What it makes of each part of the state is imu_step's Parts.antt.
 use mathlib.Core.Bool.{not, _&&_}
-use mathlib.Core.List.{List, [], _∷_}
+use mathlib.Core.List.{List}
 use lib.Ieee.{Float}
-use Rattle.number.specs.Float.{_⊕_, _⊗_, _⊘_, −_, _<ᶠ_, _=ᶠ_, _when_else_, finite}
-use Rattle.number.specs.Constants.{half}
+use Rattle.number.specs.Float.{_⊕_, _<ᶠ_, _=ᶠ_, _when_else_, finite}
 use Rattle.number.specs.Constants.{zero as +0}
 use Rattle.number.specs.Said.{Told, accepts, refuses}
-use Rattle.number.specs.Turn.{aboveFour}
-use Rattle.mat3.specs.Matrix.{zeros, identity, product, transform, transpose, sum, difference, scaled, vectorSum, vectorDifference, vectorScaled}
-use Rattle.mat9.specs.Matrix.{blocks, diagonal6, transposed}
-use Rattle.mat9.specs.Matrix.{product as product9, sum as sum9}
+use Rattle.sincos.specs.Turn.{aboveFour}
+use Rattle.vec3.specs.Vector.{vectorDifference, vectorScaled}
+use Rattle.mat3.specs.Matrix.{product, transform}
 use Rattle.inertial.specs.declared.ImuMeasurement.{ImuMeasurement}
-use Rattle.inertial.specs.declared.ImuCalib.{ImuCalib}
-use Rattle.imu.specs.declared.state.PreintegratedImu.{PreintegratedImu}
-use Rattle.imu.specs.declared.rotation.Increment.{Increment}
-use Rattle.imu.specs.Rotation.{hatOf, incrementOf, normalized}
+use Rattle.rotation.specs.declared.Increment.{Increment}
+use Rattle.rotation.specs.Rotation.{hatOf, incrementOf}
+use Rattle.imu_step.specs.Parts.{covarianceAfter, positionAfter, positionByAccel, positionByGyro, rotationAfter, rotationByGyro, velocityAfter, velocityByAccel, velocityByGyro}
+use Rattle.imu.specs.declared.PreintegratedImu.{PreintegratedImu}
 use Rattle.imu.specs.State.{finiteMeasurement, finiteState, walked}
-
--- ½·dt²
-abbrev pub halfSquare : Float → Float
-halfSquare dt = half ⊗ dt ⊗ dt
 
 -- ---- the reading less the biases
 
@@ -37,75 +25,17 @@ turnIn s m dt = vectorScaled (vectorDifference (m .gyro) (s .bias .gyro)) dt
 unfoldable pub accelIn : PreintegratedImu → ImuMeasurement → List Float
 accelIn s m = vectorDifference (m .accel) (s .bias .accel)
 
--- ---- the covariance: C' = A·C·Aᵀ + B·N·Bᵀ
-
--- −ΔR·[a]×·dt and −½·ΔR·[a]×·dt², of G = ΔR·[a]×
-abbrev pub lessTimes : List Float → Float → List Float
-lessTimes G dt = scaled G (− dt)
-
-abbrev pub lessHalfSquare : List Float → Float → List Float
-lessHalfSquare G dt = scaled G ((− half) ⊗ dt ⊗ dt)
-
-unfoldable pub matrixA : (dR G : List Float) → Float → List Float
-matrixA dR G dt = blocks 3 3 (
-    transpose dR ∷ zeros ∷ zeros ∷
-    lessTimes G dt ∷ identity ∷ zeros ∷
-    lessHalfSquare G dt ∷ scaled identity dt ∷ identity ∷ [])
-
-unfoldable pub matrixB : (Jr ΔR : List Float) → Float → List Float
-matrixB Jr ΔR dt = blocks 3 2 (
-    scaled Jr dt ∷ zeros ∷
-    zeros ∷ scaled ΔR dt ∷
-    zeros ∷ scaled ΔR (halfSquare dt) ∷ [])
-
--- "density²/dt"
-unfoldable pub matrixN : ImuCalib → Float → List Float
-matrixN c dt = diagonal6 (c .«gyro_noise» ⊗ c .«gyro_noise» ⊘ dt) (c .«accel_noise» ⊗ c .«accel_noise» ⊘ dt)
-
-unfoldable pub carried : (A C B N : List Float) → List Float
-carried A C B N =
-    sum9 9 9
-    (product9 9 9 9 (product9 9 9 9 A C) (transposed 9 9 A))
-    (product9 9 6 9 (product9 9 6 6 B N) (transposed 9 6 B))
-
--- of C, the state's covariance, and ΔR, its rotation, the turn's Exp and Jacobian being d
-unfoldable pub covarianceAfter : (C : List Float) → ImuCalib → (ΔR : List Float) → Increment → (G : List Float) → Float → List Float
-covarianceAfter C c ΔR d G dt = carried (matrixA (d .exp) G dt) C (matrixB (d .jacobian) ΔR dt) (matrixN c dt)
-
--- ---- how the deltas move with the biases: pg is ∂Δp/∂bg, and so on
-
-unfoldable pub positionByGyro : (pg vg rg G : List Float) → Float → List Float
-positionByGyro pg vg rg G dt = sum (sum pg (scaled vg dt)) (product (lessHalfSquare G dt) rg)
-
-unfoldable pub positionByAccel : (pa va ΔR : List Float) → Float → List Float
-positionByAccel pa va ΔR dt = difference (sum pa (scaled va dt)) (scaled ΔR (halfSquare dt))
-
-unfoldable pub velocityByGyro : (vg rg G : List Float) → Float → List Float
-velocityByGyro vg rg G dt = sum vg (product (lessTimes G dt) rg)
-
-unfoldable pub velocityByAccel : (va ΔR : List Float) → Float → List Float
-velocityByAccel va ΔR dt = difference va (scaled ΔR dt)
-
-unfoldable pub rotationByGyro : (rg : List Float) → Increment → Float → List Float
-rotationByGyro rg d dt = difference (product (transpose (d .exp)) rg) (scaled (d .jacobian) dt)
-
--- ---- the deltas, u being ΔR·a
-
-unfoldable pub positionAfter : (Δp Δv u : List Float) → Float → List Float
-positionAfter Δp Δv u dt = vectorSum (vectorSum Δp (vectorScaled Δv dt)) (vectorScaled u (halfSquare dt))
-
-unfoldable pub velocityAfter : (Δv u : List Float) → Float → List Float
-velocityAfter Δv u dt = vectorSum Δv (vectorScaled u dt)
-
-unfoldable pub rotationAfter : (ΔR : List Float) → Increment → List Float
-rotationAfter ΔR d = normalized (product ΔR (d .exp))
-
 -- ---- the state after it, a being the acceleration less its bias
 
-unfoldable pub advancedBy : PreintegratedImu → Increment → (a : List Float) → Float → PreintegratedImu
-advancedBy s d a dt =
+-- G = ΔR·[a]×
+abbrev pub rotatedHat : PreintegratedImu → (a : List Float) → List Float
+rotatedHat s a = product (s .«delta_rotation») (hatOf a)
+
+-- with C′ as its covariance
+unfoldable pub advancedWith : (C′ : List Float) → PreintegratedImu → Increment → (a : List Float) → Float → PreintegratedImu
+advancedWith C′ s d a dt =
     let ΔR = s .«delta_rotation» in
-    let G = product ΔR (hatOf a) in
+    let G = rotatedHat s a in
     let u = transform ΔR a in
     record {
       «delta_rotation» = rotationAfter ΔR d;
@@ -114,7 +44,7 @@ advancedBy s d a dt =
       dt = s .dt ⊕ dt;
       bias = s .bias;
       calib = s .calib;
-      covariance = covarianceAfter (s .covariance) (s .calib) ΔR d G dt;
+      covariance = C′;
       «bias_covariance» = walked s dt;
       «d_rotation_d_bias_gyro» = rotationByGyro (s .«d_rotation_d_bias_gyro») d dt;
       «d_velocity_d_bias_gyro» = velocityByGyro (s .«d_velocity_d_bias_gyro») (s .«d_rotation_d_bias_gyro») G dt;
@@ -122,6 +52,9 @@ advancedBy s d a dt =
       «d_position_d_bias_gyro» = positionByGyro (s .«d_position_d_bias_gyro») (s .«d_velocity_d_bias_gyro») (s .«d_rotation_d_bias_gyro») G dt;
       «d_position_d_bias_accel» = positionByAccel (s .«d_position_d_bias_accel») (s .«d_velocity_d_bias_accel») ΔR dt;
     }
+
+unfoldable pub advancedBy : PreintegratedImu → Increment → (a : List Float) → Float → PreintegratedImu
+advancedBy s d a dt = advancedWith (covarianceAfter (s .covariance) (s .calib) (s .«delta_rotation») d (rotatedHat s a) dt) s d a dt
 
 unfoldable pub advanced : PreintegratedImu → ImuMeasurement → Float → PreintegratedImu
 advanced s m dt = advancedBy s (incrementOf (turnIn s m dt)) (accelIn s m) dt

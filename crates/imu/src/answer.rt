@@ -1,18 +1,7 @@
 // What becomes of an inertial call, each case named as in 01's table of refusals.
 ghost use mathlib.Core.Path.{_≡_};
 ghost use Rattle.imu.specs.Answers.{isGiven, saidOutcome};
-
-pub enum Outcome {
-    Accepted,
-    NonFinite,
-    OutOfOrder,
-    Duplicate,
-    InvalidNoise,
-    AngleRange,
-    BadLength,
-    TooMany,
-    NoRoom,
-}
+use crate::Outcome;
 
 impl Outcome {
     pub fn is_accepted(self) -> bool

@@ -1,36 +1,13 @@
 // The state that readings are accumulated into.
 ghost use mathlib.Core.Path.{_≡_};
-ghost use Rattle.imu.specs.State.{accelWalk, finiteBias, finiteCalib, finiteJacobians, finiteMeasurement, finiteMotion, finiteState, fitCalib, fresh as freshOf, gyroWalk, makeOf, toldIntegrated, walked as walkedOf, widenedOf};
-use crate::answer::Outcome;
+ghost use Rattle.imu.specs.Answers.{toldWith};
+ghost use Rattle.imu.specs.State.{accelWalk, blank, finiteBias, finiteCalib, finiteJacobians, finiteMeasurement, finiteMotion, finiteState, validCalib, fresh as freshOf, gyroWalk, makeOf, toldIntegrated, walked as walkedOf, widenedOf};
+use crate::Integrated;
+use crate::Outcome;
+use crate::PreintegratedImu;
 use inertial::ImuBias;
 use inertial::ImuCalib;
 use inertial::ImuMeasurement;
-
-pub struct PreintegratedImu {
-    // Accumulated rotation, velocity and position, and the time that they took.
-    pub delta_rotation: [f64; 9],
-    pub delta_velocity: [f64; 3],
-    pub delta_position: [f64; 3],
-    pub dt: f64,
-    // The biases that were taken off, and the sensor's noise.
-    pub bias: ImuBias,
-    pub calib: ImuCalib,
-    // Of rotation, velocity and position, nine rows and columns; and of the biases of gyroscope and accelerometer, six.
-    pub covariance: [f64; 81],
-    pub bias_covariance: [f64; 36],
-    // How rotation, velocity and position move with the biases.
-    pub d_rotation_d_bias_gyro: [f64; 9],
-    pub d_velocity_d_bias_gyro: [f64; 9],
-    pub d_velocity_d_bias_accel: [f64; 9],
-    pub d_position_d_bias_gyro: [f64; 9],
-    pub d_position_d_bias_accel: [f64; 9],
-}
-
-// What became of a call, and the state after it: where it was refused, the state as it came.
-pub struct Integrated {
-    pub outcome: Outcome,
-    pub state: PreintegratedImu,
-}
 
 impl PreintegratedImu {
     // Stands where no state was made.
@@ -58,17 +35,11 @@ impl PreintegratedImu {
     pub fn new(bias: ImuBias, calib: ImuCalib) -> Integrated
         ensures { λ r. ⌜ toldIntegrated r ≡ makeOf bias calib ⌝ }
     {
-        if !is_fit_calib(calib) {
-            return Integrated {
-                outcome: Outcome::InvalidNoise,
-                state: PreintegratedImu::BLANK,
-            };
+        if !is_valid_calib(calib) {
+            return not_made(Outcome::InvalidNoise);
         }
         if !is_finite_bias(bias) {
-            return Integrated {
-                outcome: Outcome::NonFinite,
-                state: PreintegratedImu::BLANK,
-            };
+            return not_made(Outcome::NonFinite);
         }
         Integrated {
             outcome: Outcome::Accepted,
@@ -94,12 +65,11 @@ impl PreintegratedImu {
                 state: self,
             };
         }
+        let mut state = self;
+        state.bias_covariance = bias_covariance;
         Integrated {
             outcome: Outcome::Accepted,
-            state: PreintegratedImu {
-                bias_covariance,
-                ..self
-            },
+            state,
         }
     }
 
@@ -138,8 +108,8 @@ impl PreintegratedImu {
         let velocity = self.delta_velocity;
         let position = self.delta_position;
         mat3::is_finite(rotation)
-            & mat3::is_finite_vector(velocity)
-            & mat3::is_finite_vector(position)
+            & vec3::is_finite_vector(velocity)
+            & vec3::is_finite_vector(position)
             & number::is_finite(self.dt)
     }
 
@@ -156,6 +126,15 @@ impl PreintegratedImu {
             & mat3::is_finite(va)
             & mat3::is_finite(pg)
             & mat3::is_finite(pa)
+    }
+}
+
+fn not_made(outcome: Outcome) -> Integrated
+    ensures { λ r. ⌜ toldIntegrated r ≡ toldWith outcome blank ⌝ }
+{
+    Integrated {
+        outcome,
+        state: PreintegratedImu::BLANK,
     }
 }
 
@@ -183,8 +162,8 @@ fn accel_walk(calib: ImuCalib, seconds: f64) -> f64
     calib.accel_bias_noise * calib.accel_bias_noise * seconds
 }
 
-fn is_fit_calib(calib: ImuCalib) -> bool
-    ensures { λ r. ⌜ r ≡ fitCalib calib ⌝ }
+fn is_valid_calib(calib: ImuCalib) -> bool
+    ensures { λ r. ⌜ r ≡ validCalib calib ⌝ }
 {
     number::is_finite_not_negative(calib.gyro_noise)
         & number::is_finite_not_negative(calib.accel_noise)
@@ -206,7 +185,7 @@ pub fn is_finite_bias(bias: ImuBias) -> bool
 {
     let gyro = bias.gyro;
     let accel = bias.accel;
-    mat3::is_finite_vector(gyro) & mat3::is_finite_vector(accel)
+    vec3::is_finite_vector(gyro) & vec3::is_finite_vector(accel)
 }
 
 pub fn is_finite_measurement(m: ImuMeasurement) -> bool
@@ -214,5 +193,5 @@ pub fn is_finite_measurement(m: ImuMeasurement) -> bool
 {
     let gyro = m.gyro;
     let accel = m.accel;
-    number::is_finite(m.timestamp) & mat3::is_finite_vector(gyro) & mat3::is_finite_vector(accel)
+    number::is_finite(m.timestamp) & vec3::is_finite_vector(gyro) & vec3::is_finite_vector(accel)
 }

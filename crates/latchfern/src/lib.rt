@@ -3,20 +3,20 @@ ghost use mathlib.Core.Path.{_≡_};
 ghost use lib.ListN.{getD, length};
 ghost use lib.Ieee.{nan};
 ghost use Rattle.number.specs.Float.{_⊕_};
-ghost use Rattle.number.specs.Root.{sqrtOf};
-ghost use Rattle.number.specs.Said.{orNan};
-ghost use Rattle.number.specs.Turn.{turnOf};
-ghost use Rattle.wheel.specs.Events.{eventsIn, ranOf};
+ghost use Rattle.root.specs.Root.{orNan, sqrtOf};
+ghost use Rattle.sincos.specs.Turn.{turnOf};
+ghost use Rattle.runs.specs.Events.{eventsIn};
+ghost use Rattle.runs.specs.Run.{ranOf};
 ghost use Rattle.wheel_odom.specs.Information.{informationOf};
-ghost use Rattle.walk_log.specs.Lines.{linesOf};
-ghost use Rattle.imu.specs.Batch.{batchOf};
+ghost use Rattle.log_lines.specs.Lines.{linesOf};
+ghost use Rattle.imu_window.specs.Batch.{batchOf};
 ghost use Rattle.samples.specs.Window.{bufferAfter};
 ghost use Rattle.latchfern.specs.Exported.{board, cart, symmetricMeasurement};
+use drive::DifferentialDrive;
+use drive::WheelNoise;
 use imu::PreintegratedImu;
 use inertial::ImuBias;
 use inertial::ImuCalib;
-use wheel::DifferentialDrive;
-use wheel::WheelNoise;
 use wheel::WheelPreintegration;
 use wheel_odom::WheelOdomMeasurement;
 
@@ -25,7 +25,7 @@ use wheel_odom::WheelOdomMeasurement;
 pub extern "C" fn latchfern_root(x: f64) -> f64
     ensures { λ r. ⌜ r ≡ orNan (sqrtOf x) ⌝ }
 {
-    number::root_or_nan(x)
+    root::root_or_nan(x)
 }
 
 // The sine and the cosine of x, added up, so that neither goes unused.
@@ -33,14 +33,14 @@ pub extern "C" fn latchfern_root(x: f64) -> f64
 pub extern "C" fn latchfern_sine_plus_cosine(x: f64) -> f64
     ensures { λ r. ⌜ r ≡ turnOf x .sin ⊕ turnOf x .cos ⌝ }
 {
-    let v = number::evaluate(x);
+    let v = sincos::turn_of(x);
     v.sin + v.cos
 }
 
 // How long a run of 26-byte events took, on a cart with wheels of 0.1 m, a track of 0.5 m and 65,536 ticks to a turn.
 #[no_mangle]
 pub extern "C" fn latchfern_wheel_run(events: &[u8]) -> f64
-    ensures { λ r. ⌜ r ≡ ranOf cart (eventsIn (now (events .entry))) .state .dt ⌝ }
+    ensures { λ r. ⌜ r ≡ ranOf cart (eventsIn (now (events .entry))) .state .accumulated .dt ⌝ }
 {
     let drive = DifferentialDrive {
         wheel_radius: 0.1,
@@ -49,9 +49,9 @@ pub extern "C" fn latchfern_wheel_run(events: &[u8]) -> f64
     };
     let made = WheelPreintegration::new(drive, WheelNoise::DEFAULT);
     let fresh = made.state;
-    let ran = fresh.run(events);
+    let ran = runs::run(fresh, events);
     let state = ran.state;
-    state.dt
+    state.dt()
 }
 
 // How many bytes the replay of a log prints.
@@ -60,7 +60,7 @@ pub extern "C" fn latchfern_replay(log: &[u8]) -> usize
     ensures { λ r. ⌜ r ≡ length (linesOf (now (log .entry))) ⌝ }
 {
     let mut out = [0u8; 65536];
-    walk_log::replay(log, &mut out)
+    log_lines::replay(log, &mut out)
 }
 
 // Orders the samples from t0 to t1 at the front of `order`.
@@ -104,7 +104,7 @@ pub extern "C" fn latchfern_inertial_batch(samples: &[f64]) -> f64
     };
     let made = PreintegratedImu::new(ImuBias::ZERO, calib);
     let fresh = made.state;
-    let batch = fresh.integrate_batch(samples);
+    let batch = imu_window::integrate_batch(fresh, samples);
     let state = batch.state;
     state.dt
 }

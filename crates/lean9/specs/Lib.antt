@@ -1,2 +1,2 @@
--- Which places of the step's matrices hold anything but a zero.
-pub mod Shapes
+-- The products of the inertial step without what meets a zero.
+pub mod Lean

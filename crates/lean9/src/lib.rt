@@ -1,94 +1,93 @@
-// The products of the inertial step, of which one factor is mostly zeros: what meets a zero is left out. A zero times a finite number is a zero and adds nothing, bit for
-// bit, to a sum that starts from +0. So wherever the other factor is finite, each is the whole product, and elsewhere the whole product is computed.
+// The covariance of the inertial step, A·C·Aᵀ + B·N·Bᵀ, of which A, B and N are mostly zeros: what meets a zero is left out. A zero times a finite number is a zero and adds
+// nothing, bit for bit, to a sum that starts from +0; and what is not finite stays so. proofs/Agrees.antt has the law.
 ghost use mathlib.Core.Path.{_≡_};
 ghost use Prim.Native.Nat.{_+_, _*_, _<_, _≤_};
 ghost use lib.ListN.{getD, length};
+ghost use lib.Seq.{paste};
 ghost use lib.Ieee.{nan};
-ghost use mathlib.Core.Bool.{true};
 ghost use lib.Dec.{ltb};
 ghost use Rattle.number.specs.Float.{_⊕_, _⊗_, _when_else_};
-ghost use Rattle.number.specs.Constants.{zero as +0};
 ghost use Rattle.number.specs.Tabulated.{tabulated};
-ghost use Rattle.mat9.specs.Matrix.{allFinite, entry, product as productOf, rowTimesColumn, transposed};
-ghost use Rattle.lean9.specs.Shapes.{DiagonalShape, NoiseShape, StepShape};
+ghost use Rattle.mat9.specs.Matrix.{entry};
+ghost use Rattle.lean9.specs.Lean.{keptInNoise, keptInStep, keptSum, leanCarried, noiseTimesDiagonal, stepTimes, term, threeFrom, timesNoiseTransposed, timesStepTransposed};
+
+// What stands in row r and column k of m, which has nine rows.
+fn number_at(m: &[f64], r: usize, k: usize) -> f64
+    requires { ⌜ r + k * 9 < length (now m) ⌝ }
+    ensures { λ x. ⌜ x ≡ entry 9 (now (m .entry)) r k ⌝ }
+{
+    m[r + k * 9]
+}
 
 // w plus column k of m times x, row by row.
 fn plus_column(w: [f64; 9], m: &[f64], k: usize, x: f64) -> [f64; 9]
     requires { ⌜ 9 * (k + 1) ≤ length (now m) ⌝ }
     ensures { λ v. ⌜ v ≡ tabulated 9 (λ r. getD w r nan ⊕ entry 9 (now (m .entry)) r k ⊗ x) ⌝ }
 {
-    let p = k * 9;
-    [
-        w[0] + m[p] * x,
-        w[1] + m[1 + p] * x,
-        w[2] + m[2 + p] * x,
-        w[3] + m[3 + p] * x,
-        w[4] + m[4 + p] * x,
-        w[5] + m[5 + p] * x,
-        w[6] + m[6 + p] * x,
-        w[7] + m[7 + p] * x,
-        w[8] + m[8 + p] * x,
-    ]
-}
-
-// Columns k, k + 1 and k + 2 of m, times x, y and z: a sum from 0, from the left, in each row.
-fn three_columns(m: &[f64], k: usize, x: f64, y: f64, z: f64) -> [f64; 9]
-    requires { ⌜ 9 * (k + 3) ≤ length (now m) ⌝ }
-    ensures { λ w. ⌜ w ≡ tabulated 9 (λ r. +0 ⊕ entry 9 (now (m .entry)) r k ⊗ x ⊕ entry 9 (now (m .entry)) r (k + 1) ⊗ y ⊕ entry 9 (now (m .entry)) r (k + 2) ⊗ z) ⌝ }
-{
-    let one = plus_column([0.0; 9], m, k, x);
-    let two = plus_column(one, m, k + 1, y);
-    plus_column(two, m, k + 2, z)
-}
-
-// Column c of m · aᵀ.
-fn step_transposed_column(m: &[f64; 81], a: &[f64; 81], c: usize) -> [f64; 9]
-    requires { ⌜ (c < 9) × StepShape (now a) × (allFinite (now m) ≡ true) ⌝ }
-    ensures { λ w. ⌜ w ≡ tabulated 9 (λ r. rowTimesColumn 9 9 (now (m .entry)) (transposed 9 9 (now (a .entry))) r c) ⌝ }
-{
-    let x = a[c];
-    let y = a[c + 9];
-    let z = a[c + 18];
-    let w = three_columns(m, 0, x, y, z);
-    if c < 3 {
-        return w;
-    }
-    let own = a[c + c * 9];
-    if c < 6 {
-        return plus_column(w, m, c, own);
-    }
-    let k = c - 3;
-    let lower = a[c + k * 9];
-    plus_column(plus_column(w, m, k, lower), m, c, own)
-}
-
-// m · aᵀ, of finite numbers.
-fn finite_times_step_transposed(m: &[f64; 81], a: &[f64; 81]) -> [f64; 81]
-    requires { ⌜ StepShape (now a) × (allFinite (now m) ≡ true) ⌝ }
-    ensures { λ x. ⌜ x ≡ productOf 9 9 9 (now (m .entry)) (transposed 9 9 (now (a .entry))) ⌝ }
-{
-    let mut out = [0.0; 81];
-    for c in 0..9 {
-        let w = step_transposed_column(m, a, c);
-        for r in 0..9 {
-            out[r + c * 9] = w[r];
-        }
+    let mut out = w;
+    for r in 0..9 {
+        out[r] = w[r] + number_at(m, r, k) * x;
     }
     out
 }
 
-// m · aᵀ.
-pub fn times_step_transposed(m: &[f64; 81], a: &[f64; 81]) -> [f64; 81]
-    requires { ⌜ StepShape (now a) ⌝ }
-    ensures { λ x. ⌜ x ≡ productOf 9 9 9 (now (m .entry)) (transposed 9 9 (now (a .entry))) ⌝ }
+// w plus column k of m times what row c of a has there: a term of m · aᵀ more.
+fn plus_term(w: [f64; 9], m: &[f64], a: &[f64], c: usize, k: usize) -> [f64; 9]
+    requires { ⌜ (9 * (k + 1) ≤ length (now m)) × (c + k * 9 < length (now a)) ⌝ }
+    ensures { λ v. ⌜ v ≡ tabulated 9 (λ r. getD w r nan ⊕ term (now (m .entry)) (now (a .entry)) r c k) ⌝ }
 {
-    if mat9::all_finite(m) {
-        return finite_times_step_transposed(m, a);
-    }
-    mat9::mat9_mul_transposed(m, a)
+    plus_column(w, m, k, number_at(a, c, k))
 }
 
-// The first of the three columns that row c of the noise's shape keeps: a number and no branch, so that each column is summed by the same code.
+// Three terms from k on: a sum from 0, from the left, in each row.
+fn three_terms(m: &[f64], a: &[f64], c: usize, k: usize) -> [f64; 9]
+    requires { ⌜ (c < 9) × (9 * (k + 3) ≤ length (now m)) × (9 * (k + 3) ≤ length (now a)) ⌝ }
+    ensures { λ w. ⌜ w ≡ tabulated 9 (λ r. threeFrom k (term (now (m .entry)) (now (a .entry)) r c)) ⌝ }
+{
+    let one = plus_term([0.0; 9], m, a, c, k);
+    let two = plus_term(one, m, a, c, k + 1);
+    plus_term(two, m, a, c, k + 2)
+}
+
+// w as column c of out.
+fn put_column(out: &mut [f64], c: usize, w: [f64; 9])
+    requires { ⌜ 9 * (c + 1) ≤ length (now out) ⌝ }
+    ensures { λ _. ⌜ now (out .exit) ≡ paste (now (out .entry)) (c * 9) w 9 ⌝ }
+{
+    for r in 0..9 {
+        out[c * 9 + r] = w[r];
+    }
+}
+
+// Column c of m · aᵀ.
+fn step_transposed_column(m: &[f64], a: &[f64], c: usize) -> [f64; 9]
+    requires { ⌜ (c < 9) × (81 ≤ length (now m)) × (81 ≤ length (now a)) ⌝ }
+    ensures { λ w. ⌜ w ≡ tabulated 9 (λ r. keptSum 9 (keptInStep c) (term (now (m .entry)) (now (a .entry)) r c)) ⌝ }
+{
+    let w = three_terms(m, a, c, 0);
+    if c < 3 {
+        return w;
+    }
+    if c < 6 {
+        return plus_term(w, m, a, c, c);
+    }
+    let k = c - 3;
+    plus_term(plus_term(w, m, a, c, k), m, a, c, c)
+}
+
+// m · aᵀ.
+fn times_step_transposed(m: &[f64; 81], a: &[f64; 81]) -> [f64; 81]
+    ensures { λ x. ⌜ x ≡ timesStepTransposed (now (m .entry)) (now (a .entry)) ⌝ }
+{
+    let mut out = [0.0; 81];
+    for c in 0..9 {
+        let w = step_transposed_column(m, a, c);
+        put_column(&mut out, c, w);
+    }
+    out
+}
+
+// The first of the three columns that row c of b keeps: a number and no branch, so that each column is summed by the same code.
 fn first_kept(c: usize) -> usize
     ensures { λ k. ⌜ (k ≡ (0 when ltb c 3 else 3)) × (k ≤ 3) ⌝ }
 {
@@ -99,120 +98,93 @@ fn first_kept(c: usize) -> usize
 }
 
 // Column c of t · bᵀ.
-fn noise_transposed_column(t: &[f64; 54], b: &[f64; 54], c: usize) -> [f64; 9]
-    requires { ⌜ (c < 9) × NoiseShape (now b) × (allFinite (now t) ≡ true) ⌝ }
-    ensures { λ w. ⌜ w ≡ tabulated 9 (λ r. rowTimesColumn 9 6 (now (t .entry)) (transposed 9 6 (now (b .entry))) r c) ⌝ }
+fn noise_transposed_column(t: &[f64], b: &[f64], c: usize) -> [f64; 9]
+    requires { ⌜ (c < 9) × (54 ≤ length (now t)) × (54 ≤ length (now b)) ⌝ }
+    ensures { λ w. ⌜ w ≡ tabulated 9 (λ r. keptSum 6 (keptInNoise c) (term (now (t .entry)) (now (b .entry)) r c)) ⌝ }
 {
-    let k = first_kept(c);
-    let x = b[c + k * 9];
-    let y = b[c + (k + 1) * 9];
-    let z = b[c + (k + 2) * 9];
-    three_columns(t, k, x, y, z)
+    three_terms(t, b, c, first_kept(c))
 }
 
-// t · bᵀ, of finite numbers.
-fn finite_times_noise_transposed(t: &[f64; 54], b: &[f64; 54]) -> [f64; 81]
-    requires { ⌜ NoiseShape (now b) × (allFinite (now t) ≡ true) ⌝ }
-    ensures { λ x. ⌜ x ≡ productOf 9 6 9 (now (t .entry)) (transposed 9 6 (now (b .entry))) ⌝ }
+// t · bᵀ.
+fn times_noise_transposed(t: &[f64; 54], b: &[f64; 54]) -> [f64; 81]
+    ensures { λ x. ⌜ x ≡ timesNoiseTransposed (now (t .entry)) (now (b .entry)) ⌝ }
 {
     let mut out = [0.0; 81];
     for c in 0..9 {
         let w = noise_transposed_column(t, b, c);
-        for r in 0..9 {
-            out[r + c * 9] = w[r];
-        }
+        put_column(&mut out, c, w);
     }
     out
 }
 
-// t · bᵀ.
-pub fn times_noise_transposed(t: &[f64; 54], b: &[f64; 54]) -> [f64; 81]
-    requires { ⌜ NoiseShape (now b) ⌝ }
-    ensures { λ x. ⌜ x ≡ productOf 9 6 9 (now (t .entry)) (transposed 9 6 (now (b .entry))) ⌝ }
-{
-    if mat9::all_finite(t) {
-        return finite_times_noise_transposed(t, b);
-    }
-    mat9::mat9x6_mul_transposed(t, b)
-}
-
-// Column c of b · n.
-fn diagonal_column(b: &[f64; 54], n: &[f64; 36], c: usize) -> [f64; 9]
-    requires { ⌜ (c < 6) × DiagonalShape (now n) × (allFinite (now b) ≡ true) ⌝ }
-    ensures { λ w. ⌜ w ≡ tabulated 9 (λ r. rowTimesColumn 9 6 (now (b .entry)) (now (n .entry)) r c) ⌝ }
-{
-    let own = n[c + c * 6];
-    plus_column([0.0; 9], b, c, own)
-}
-
-// b · n, of finite numbers.
-fn finite_times_diagonal(b: &[f64; 54], n: &[f64; 36]) -> [f64; 54]
-    requires { ⌜ DiagonalShape (now n) × (allFinite (now b) ≡ true) ⌝ }
-    ensures { λ x. ⌜ x ≡ productOf 9 6 6 (now (b .entry)) (now (n .entry)) ⌝ }
+// b · n: of each column of n what is kept is its own place, on the diagonal.
+fn noise_times_diagonal(b: &[f64; 54], n: &[f64; 36]) -> [f64; 54]
+    ensures { λ x. ⌜ x ≡ noiseTimesDiagonal (now (b .entry)) (now (n .entry)) ⌝ }
 {
     let mut out = [0.0; 54];
     for c in 0..6 {
-        let w = diagonal_column(b, n, c);
-        for r in 0..9 {
-            out[r + c * 9] = w[r];
-        }
+        let own = n[c + c * 6];
+        let w = plus_column([0.0; 9], b, c, own);
+        put_column(&mut out, c, w);
     }
     out
 }
 
-// b · n.
-pub fn noise_times_diagonal(b: &[f64; 54], n: &[f64; 36]) -> [f64; 54]
-    requires { ⌜ DiagonalShape (now n) ⌝ }
-    ensures { λ x. ⌜ x ≡ productOf 9 6 6 (now (b .entry)) (now (n .entry)) ⌝ }
+// Row r of a times column c of m, at k.
+fn term_of(a: &[f64], m: &[f64], r: usize, c: usize, k: usize) -> f64
+    requires { ⌜ (r < 9) × (k < 9) × (81 ≤ length (now a)) × (9 * (c + 1) ≤ length (now m)) ⌝ }
+    ensures { λ x. ⌜ x ≡ entry 9 (now (a .entry)) r k ⊗ entry 9 (now (m .entry)) k c ⌝ }
 {
-    if mat9::all_finite(b) {
-        return finite_times_diagonal(b, n);
+    number_at(a, r, k) * number_at(m, k, c)
+}
+
+// Row r of a times column c of m: the first three columns of a, then what stands three rows below its diagonal and on it.
+fn step_row(a: &[f64], m: &[f64], r: usize, c: usize) -> f64
+    requires { ⌜ (r < 9) × (81 ≤ length (now a)) × (9 * (c + 1) ≤ length (now m)) ⌝ }
+    ensures { λ x. ⌜ x ≡ keptSum 9 (keptInStep r) (λ k. entry 9 (now (a .entry)) r k ⊗ entry 9 (now (m .entry)) k c) ⌝ }
+{
+    let s = 0.0 + term_of(a, m, r, c, 0) + term_of(a, m, r, c, 1) + term_of(a, m, r, c, 2);
+    if r < 3 {
+        return s;
     }
-    mat9::mat9x6_mul_6x6(b, n)
+    let own = term_of(a, m, r, c, r);
+    if r < 6 {
+        return s + own;
+    }
+    s + term_of(a, m, r, c, r - 3) + own
 }
 
-// Column c of a · m: the first three columns of a, then what stands on the diagonal and three rows below it. The length of m is asked for since it is lent whole.
-fn step_column(a: &[f64; 81], m: &[f64; 81], c: usize) -> [f64; 9]
-    requires { ⌜ (c < 9) × StepShape (now a) × (allFinite (now m) ≡ true) × (length (now m) ≡ 81) ⌝ }
-    ensures { λ w. ⌜ w ≡ tabulated 9 (λ r. rowTimesColumn 9 9 (now (a .entry)) (now (m .entry)) r c) ⌝ }
+// Column c of a · m.
+fn step_column(a: &[f64], m: &[f64], c: usize) -> [f64; 9]
+    requires { ⌜ (81 ≤ length (now a)) × (9 * (c + 1) ≤ length (now m)) ⌝ }
+    ensures { λ w. ⌜ w ≡ tabulated 9 (λ r. keptSum 9 (keptInStep r) (λ k. entry 9 (now (a .entry)) r k ⊗ entry 9 (now (m .entry)) k c)) ⌝ }
 {
-    let v = mat9::column9(m, c);
-    let w = three_columns(a, 0, v[0], v[1], v[2]);
-    [
-        w[0],
-        w[1],
-        w[2],
-        w[3] + a[30] * v[3],
-        w[4] + a[40] * v[4],
-        w[5] + a[50] * v[5],
-        w[6] + a[33] * v[3] + a[60] * v[6],
-        w[7] + a[43] * v[4] + a[70] * v[7],
-        w[8] + a[53] * v[5] + a[80] * v[8],
-    ]
-}
-
-// a · m, of finite numbers.
-fn step_times_finite(a: &[f64; 81], m: &[f64; 81]) -> [f64; 81]
-    requires { ⌜ StepShape (now a) × (allFinite (now m) ≡ true) × (length (now m) ≡ 81) ⌝ }
-    ensures { λ x. ⌜ x ≡ productOf 9 9 9 (now (a .entry)) (now (m .entry)) ⌝ }
-{
-    let mut out = [0.0; 81];
-    for c in 0..9 {
-        let w = step_column(a, m, c);
-        for r in 0..9 {
-            out[r + c * 9] = w[r];
-        }
+    let mut out = [0.0; 9];
+    for r in 0..9 {
+        out[r] = step_row(a, m, r, c);
     }
     out
 }
 
 // a · m.
-pub fn step_times(a: &[f64; 81], m: &[f64; 81]) -> [f64; 81]
-    requires { ⌜ StepShape (now a) ⌝ }
-    ensures { λ x. ⌜ x ≡ productOf 9 9 9 (now (a .entry)) (now (m .entry)) ⌝ }
+fn step_times(a: &[f64; 81], m: &[f64; 81]) -> [f64; 81]
+    ensures { λ x. ⌜ x ≡ stepTimes (now (a .entry)) (now (m .entry)) ⌝ }
 {
-    if mat9::all_finite(m) {
-        return step_times_finite(a, m);
+    let mut out = [0.0; 81];
+    for c in 0..9 {
+        let w = step_column(a, m, c);
+        put_column(&mut out, c, w);
     }
-    mat9::mat9_mul(a, m)
+    out
+}
+
+// A·C·Aᵀ + B·N·Bᵀ.
+pub fn carried(a: &[f64; 81], c: &[f64; 81], b: &[f64; 54], n: &[f64; 36]) -> [f64; 81]
+    ensures { λ r. ⌜ r ≡ leanCarried (now (a .entry)) (now (c .entry)) (now (b .entry)) (now (n .entry)) ⌝ }
+{
+    let ac = step_times(a, c);
+    let aca = times_step_transposed(&ac, a);
+    let bn = noise_times_diagonal(b, n);
+    let bnb = times_noise_transposed(&bn, b);
+    mat9::mat9_add(&aca, &bnb)
 }

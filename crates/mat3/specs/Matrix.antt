@@ -1,14 +1,15 @@
 -- 3×3 matrices of f64: nine numbers, column by column. 01, Composing planar motions: "Products add k = 0, 1, 2 in that order".
-use Prim.Native.Nat.{ℕ, _+_, _*_, _%_}
+use Prim.Native.Nat.{ℕ, _+_, _*_}
 use mathlib.Core.Bool.{Bool, _&&_}
 use mathlib.Core.List.{List, [], _∷_}
 use lib.ListN.{getD}
 use lib.Ieee.{Float, nan}
-use Rattle.number.specs.Float.{_⊕_, _⊖_, _⊗_, _⊘_, −_, finite}
+use Rattle.number.specs.Float.{_⊕_, _⊖_, _⊗_, −_}
 use Rattle.number.specs.Constants.{one}
 use Rattle.number.specs.Constants.{zero as +0}
+use Rattle.vec3.specs.Vector.{coordinate, vector, finiteVector}
 
--- ---- nine numbers by row and column, and three by place
+-- ---- nine numbers by row and column
 
 -- what stands in row i and column j
 abbrev pub entry : List Float → ℕ → ℕ → Float
@@ -21,12 +22,6 @@ matrix f = f 0 0 ∷ f 1 0 ∷ f 2 0 ∷ f 0 1 ∷ f 1 1 ∷ f 2 1 ∷ f 0 2 ∷
 -- the same from three rows, as they are printed
 abbrev pub rows : Float → Float → Float → Float → Float → Float → Float → Float → Float → List Float
 rows a00 a01 a02 a10 a11 a12 a20 a21 a22 = a00 ∷ a10 ∷ a20 ∷ a01 ∷ a11 ∷ a21 ∷ a02 ∷ a12 ∷ a22 ∷ []
-
-abbrev pub coordinate : List Float → ℕ → Float
-coordinate v i = getD v i nan
-
-abbrev pub vector : (ℕ → Float) → List Float
-vector f = f 0 ∷ f 1 ∷ f 2 ∷ []
 
 -- ---- sums and products
 
@@ -48,24 +43,6 @@ difference a b = matrix (λ i j. entry a i j ⊖ entry b i j)
 abbrev pub scaled : List Float → Float → List Float
 scaled a s = matrix (λ i j. entry a i j ⊗ s)
 
--- ---- vectors
-
-abbrev pub vectorSum : List Float → List Float → List Float
-vectorSum a b = vector (λ i. coordinate a i ⊕ coordinate b i)
-
-abbrev pub vectorDifference : List Float → List Float → List Float
-vectorDifference a b = vector (λ i. coordinate a i ⊖ coordinate b i)
-
-abbrev pub vectorScaled : List Float → Float → List Float
-vectorScaled v s = vector (λ i. coordinate v i ⊗ s)
-
-abbrev pub dot : List Float → List Float → Float
-dot a b = coordinate a 0 ⊗ coordinate b 0 ⊕ coordinate a 1 ⊗ coordinate b 1 ⊕ coordinate a 2 ⊗ coordinate b 2
-
--- coordinates are counted round, after 2 comes 0
-abbrev pub cross : List Float → List Float → List Float
-cross a b = vector (λ i. coordinate a ((i + 1) % 3) ⊗ coordinate b ((i + 2) % 3) ⊖ coordinate a ((i + 2) % 3) ⊗ coordinate b ((i + 1) % 3))
-
 -- column j as three numbers
 abbrev pub column : List Float → ℕ → List Float
 column m j = vector (λ i. entry m i j)
@@ -73,9 +50,6 @@ column m j = vector (λ i. entry m i j)
 -- three columns side by side
 abbrev pub columns : List Float → List Float → List Float → List Float
 columns a b c = matrix (λ i j. coordinate (getD (a ∷ b ∷ c ∷ []) j []) i)
-
-abbrev pub zeroVector : List Float
-zeroVector = +0 ∷ +0 ∷ +0 ∷ []
 
 -- ---- matrices that are named
 
@@ -96,37 +70,7 @@ hat x y z = rows +0 (− z) y z +0 (− x) (− y) x +0
 abbrev pub yaw : Float → Float → List Float
 yaw s c = rows c (− s) +0 s c +0 +0 +0 one
 
--- ---- determinant and inverse. 01, Information of wheel factors: "The determinant expands along row 0; the inverse is the adjugate times 1/det."
-
-abbrev pub determinant : List Float → Float
-determinant m =
-    entry m 0 0 ⊗ (entry m 1 1 ⊗ entry m 2 2 ⊖ entry m 1 2 ⊗ entry m 2 1)
-    ⊖ entry m 0 1 ⊗ (entry m 1 0 ⊗ entry m 2 2 ⊖ entry m 1 2 ⊗ entry m 2 0)
-    ⊕ entry m 0 2 ⊗ (entry m 1 0 ⊗ entry m 2 1 ⊖ entry m 1 1 ⊗ entry m 2 0)
-
--- What is left of m without row i and column j, as a difference of two products. Rows and columns are counted round, after 2 comes 0,
--- which has the two products change places where i + j is odd.
-abbrev pub cofactor : List Float → ℕ → ℕ → Float
-cofactor m i j =
-    entry m ((i + 1) % 3) ((j + 1) % 3) ⊗ entry m ((i + 2) % 3) ((j + 2) % 3)
-    ⊖ entry m ((i + 1) % 3) ((j + 2) % 3) ⊗ entry m ((i + 2) % 3) ((j + 1) % 3)
-
-abbrev pub adjugate : List Float → List Float
-adjugate m = matrix (λ i j. cofactor m j i)
-
-abbrev pub inverse : List Float → List Float
-inverse m = scaled (adjugate m) (one ⊘ determinant m)
-
 -- ---- no infinity and no NaN
 
-unfoldable pub threeFinite : Float → Float → Float → Bool
-threeFinite a b c = finite a && finite b && finite c
-
-abbrev pub finiteVector : List Float → Bool
-finiteVector v = threeFinite (coordinate v 0) (coordinate v 1) (coordinate v 2)
-
 abbrev pub finiteMatrix : List Float → Bool
-finiteMatrix m =
-    threeFinite (entry m 0 0) (entry m 1 0) (entry m 2 0)
-    && threeFinite (entry m 0 1) (entry m 1 1) (entry m 2 1)
-    && threeFinite (entry m 0 2) (entry m 1 2) (entry m 2 2)
+finiteMatrix m = finiteVector (column m 0) && finiteVector (column m 1) && finiteVector (column m 2)

@@ -1,19 +1,18 @@
--- The loops of the matrix functions: where a place of a matrix lies, what stands at a row and a column of a matrix that is given by its entries, a column
--- that was read before it is multiplied, and a loop over columns and rows that fills a matrix: `Filled` of the crate number, place by place. Assumes nothing.
-use mathlib.Core.Path.{_≡_, refl, sym, _∙_}
+-- The loops of the matrix functions: where a place of a matrix lies, what stands at a row and a column of a matrix that is given by its entries, and a loop over
+-- columns and rows that fills a matrix: `Filled` of the crate number, place by place. Assumes nothing.
+use mathlib.Core.Path.{_≡_, sym, _∙_}
 use mathlib.Core.List.{List, []}
-use Prim.Native.Nat.{ℕ, zero, suc, _+_, _*_, _/_, _%_, _≤_, _<_}
-use native.Mathlib.Nat.{suc-mul, zero-mul, zero-add, add-zero, mul-comm, mul-le-mul-right, div-eq-of-lt, mod-eq-of-lt, add-mul-div-right, add-mul-mod-self-right}
+use Prim.Native.Nat.{ℕ, suc, _+_, _*_, _/_, _%_, _≤_, _<_}
+use native.Mathlib.Nat.{suc-mul, zero-add, mul-comm, mul-le-mul-right, div-eq-of-lt, mod-eq-of-lt, add-mul-div-right, add-mul-mod-self-right}
 use native.Mathlib.Omega.{arith}
 use lib.ListN.{length, getD, set, drop}
 use lib.Seq.{drop-at}
 use lib.Ieee.{Float, nan}
-use Rattle.number.specs.Float.{_⊗_}
 use Rattle.number.specs.Tabulated.{tabulated}
 use Rattle.number.proofs.Tabulated.{tabulated-at, tabulated-length}
 use Rattle.number.proofs.Filled.{Filled, filled-none, filled-more, filled-done}
 use Rattle.mat3.specs.Matrix.{entry as entry3}
-use Rattle.mat9.specs.Matrix.{entry, matrix, rowTimesColumn, sumFromZero, transposed}
+use Rattle.mat9.specs.Matrix.{entry, matrix, transposed}
 
 -- ---- where a place lies
 
@@ -42,29 +41,6 @@ pub entry-transposed : {rows cols i j : ℕ} (a : List Float) → i < cols → j
 unfolding transposed
 entry-transposed {rows} a h g = entry-matrix (λ i j. entry rows a j i) h g
 
--- ---- a column that was read
-
-pub sum-same : (n : ℕ) (f g : ℕ → Float) → ((k : ℕ) → k < n → f k ≡ g k) → sumFromZero n f ≡ sumFromZero n g
-unfolding sumFromZero
-sum-same zero f g e = refl
-sum-same (suc n) f g e = rw (sum-same n f g (λ k h. e k (omega arith)), e n (omega arith))
-
--- what is read from column j of b gives the product that column j of b gives
-times-column : {inner : ℕ} (rows : ℕ) (a b : List Float) (i j : ℕ) (f : ℕ → Float) → ((k : ℕ) → k < inner → f k ≡ entry inner b k j)
-    → rowTimesColumn rows inner a (tabulated inner f) i 0 ≡ rowTimesColumn rows inner a b i j
-unfolding rowTimesColumn
-times-column {inner} rows a b i j f e =
-    sum-same
-    inner
-    (λ k. entry rows a i k ⊗ entry inner (tabulated inner f) k 0)
-    (λ k. entry rows a i k ⊗ entry inner b k j)
-    (λ k h. rw (zero-mul, add-zero, tabulated-at f inner k nan h, e k h))
-
-pub tabulated-same : (n : ℕ) (f g : ℕ → Float) → ((k : ℕ) → k < n → f k ≡ g k) → tabulated n f ≡ tabulated n g
-unfolding tabulated
-tabulated-same zero f g e = refl
-tabulated-same (suc n) f g e = rw (tabulated-same n f g (λ k h. e k (omega arith)), e n (omega arith))
-
 -- ---- filled column by column
 
 -- `out`, a matrix of nine rows, is filled up to row r of column c; it goes on as `d`
@@ -80,17 +56,6 @@ pub filled-to-more : {cols r c : ℕ} {f : ℕ → ℕ → Float} {d out : List 
 filled-to-more {cols} {r} {c} {f} {d} {out} {v} w h g e =
     let at : r + 1 + c * 9 ≡ r + c * 9 + 1 = omega arith in
     record { row = omega arith; filled = rw at (filled-more (w .filled) (within h g) (e ∙ sym (cell-at f h))) }
-
--- a row of a times what was read from a column of b
-pub filled-to-product : {inner cols r c : ℕ} {d out v : List Float} {x : Float} (a b : List Float) (f : ℕ → Float)
-    → FilledTo cols (rowTimesColumn 9 inner a b) d r c out → r < 9 → c < cols → x ≡ rowTimesColumn 9 inner a v r 0 → v ≡ tabulated inner f → ((k : ℕ) → k < inner → f k ≡ entry inner b k c)
-    → FilledTo cols (rowTimesColumn 9 inner a b) d (r + 1) c (set out (r + c * 9) x)
-filled-to-product {r = r} {c = c} a b f w h g e read same = filled-to-more w h g (e ∙ rw (read, times-column 9 a b r c f same))
-
--- a column that was made whole, and is stored row by row
-pub filled-to-copy : {cols r c : ℕ} {f : ℕ → ℕ → Float} {d out w : List Float}
-    → FilledTo cols f d r c out → r < 9 → c < cols → w ≡ tabulated 9 (λ i. f i c) → FilledTo cols f d (r + 1) c (set out (r + c * 9) (getD w r nan))
-filled-to-copy {cols} {r} {c} {f} v h g e = filled-to-more v h g (rw e (tabulated-at (λ i. f i c) 9 r nan h))
 
 -- after the last row of a column stands the first of the next
 pub filled-to-next : {cols r c : ℕ} {f : ℕ → ℕ → Float} {d out : List Float} → FilledTo cols f d r c out → 9 ≤ r → FilledTo cols f out 0 (c + 1) out

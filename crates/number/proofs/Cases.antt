@@ -1,25 +1,15 @@
--- What an answer says in 01's numbers determines the answer: the contracts that speak through `saidRoot` and `saidTurned` leave no choice.
--- Assumes nothing.
-use mathlib.Core.Path.{_≡_, refl}
-use Rattle.number.specs.declared.root.Root.{Root}
-use Rattle.number.specs.declared.root.Root.the-variants as R
-use Rattle.number.specs.declared.turn.Turned.{Turned}
-use Rattle.number.specs.declared.turn.Turned.the-variants as T
-use Rattle.number.specs.Said.{saidRoot, saidTurned}
+-- An answer that can be read back from what it says in 01's numbers and values is determined by them; a refusal is never an acceptance. Assumes nothing.
+use mathlib.Core.Path.{_≡_, sym, ap, _∙_}
+use Prim.Native.Nat.{ℕ}
+use native.Mathlib.Omega.{arith}
+use Rattle.number.specs.Said.{Said, gives, refused, Told, accepts, refuses}
 
-pub root-determined : (a b : Root) → saidRoot a ≡ saidRoot b → a ≡ b
-root-determined (R.Value r) (R.Value s) e = cc
-root-determined (R.Value r) R.NonFinite e = cc
-root-determined R.NonFinite (R.Value s) e = cc
-root-determined R.NonFinite R.NonFinite e = refl
+pub determined : {A B : Type 0} (said : B → A) (back : A → B) → ((x : B) → back (said x) ≡ x) → (x y : B) → said x ≡ said y → x ≡ y
+determined said back same x y e = sym (same x) ∙ ap back e ∙ same y
 
-pub turned-determined : (a b : Turned) → saidTurned a ≡ saidTurned b → a ≡ b
-turned-determined (T.Value v) (T.Value w) e = cc
-turned-determined (T.Value v) T.NonFinite e = cc
-turned-determined (T.Value v) T.AngleRange e = cc
-turned-determined T.NonFinite (T.Value w) e = cc
-turned-determined T.NonFinite T.NonFinite e = refl
-turned-determined T.NonFinite T.AngleRange e = cc
-turned-determined T.AngleRange (T.Value w) e = cc
-turned-determined T.AngleRange T.NonFinite e = cc
-turned-determined T.AngleRange T.AngleRange e = refl
+abbrev isGiven : Said (Unit {0}) → ℕ
+isGiven (gives u) = 1
+isGiven (refused n values) = 0
+
+pub refused-not-accepted : {A : Type 0} (n : ℕ) (x y : A) → refuses n x ≡ accepts y → ⊥
+refused-not-accepted {A} n x y e = let z : _≡_ {A = ℕ} 0 1 = ap (λ (t : Told A). isGiven (t .outcome)) e in omega arith

@@ -6,7 +6,4 @@ pub mod Fit
 pub mod Tabulated
 pub mod Whole
 pub mod Ticks
-pub mod Root
-pub mod RootSteps
-pub mod Turn
 pub mod Halving

@@ -19,11 +19,11 @@ pub fn halvings(ratio: f64) -> Halved
             parts: 1.0,
         };
     }
-    enough_parts(ratio)
+    first_halvings(ratio)
 }
 
 // The first power of two, from 2^0 to 2^20, that is not below the ratio, or 2^20.
-fn enough_parts(ratio: f64) -> Halved
+fn first_halvings(ratio: f64) -> Halved
     ensures { λ r. ⌜ r ≡ firstHalvings ratio ⌝ }
 {
     let mut count: u32 = 0;

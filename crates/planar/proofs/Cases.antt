@@ -1,10 +1,10 @@
 -- What a composing says in 01's numbers, and the motion beside it, determine the answer. Assumes nothing.
 use mathlib.Core.Path.{_≡_, refl, ap}
 use Rattle.number.specs.Said.{Told}
-use Rattle.planar.specs.declared.motion.Composed.{Composed}
-use Rattle.planar.specs.declared.motion.Outcome.{Outcome}
-use Rattle.planar.specs.declared.motion.Outcome.the-variants as O
-use Rattle.planar.specs.declared.motion.PlanarMotion.{PlanarMotion}
+use Rattle.planar.specs.declared.Composed.{Composed}
+use Rattle.planar.specs.declared.Outcome.{Outcome}
+use Rattle.planar.specs.declared.Outcome.the-variants as O
+use Rattle.planar.specs.declared.PlanarMotion.{PlanarMotion}
 use Rattle.planar.specs.Compose.{saidOutcome, toldComposed}
 
 pub outcome-determined : (a b : Outcome) → saidOutcome a ≡ saidOutcome b → a ≡ b

@@ -11,7 +11,7 @@ use Rattle.number.proofs.float.Monotone.{<ᶠ-≤ᶠ, not-below, ≤ᶠ-connect
 use Rattle.number.proofs.float.Sizes.{size-at-most, size-at-least, size-bounded}
 use Rattle.mat3.specs.Matrix.{sum, transpose}
 use Rattle.mat3.proofs.Laws.{Symmetric, plus-transpose-symmetric, sum-symmetric, scaled-symmetric}
-use Rattle.planar.specs.declared.motion.PlanarMotion.{PlanarMotion}
+use Rattle.planar.specs.declared.PlanarMotion.{PlanarMotion}
 use Rattle.planar.specs.Motion.{heading}
 use Rattle.planar.specs.Compose.{composed, wrapped, symmetrized}
 

@@ -6,12 +6,13 @@ use Rattle.number.specs.Float.{_⊕_, _⊖_, −_, _<ᶠ_, _≤ᶠ_, _when_else
 use Rattle.number.specs.Constants.{half, one, PI, TAU}
 use Rattle.number.specs.Constants.{zero as +0}
 use Rattle.number.specs.Said.{Said, gives, refusal, Told, accepts, refuses}
-use Rattle.number.specs.Turn.{turnOf, aboveFour}
-use Rattle.mat3.specs.Matrix.{coordinate, rows, yaw, product, transform, transpose, sum, scaled}
-use Rattle.planar.specs.declared.motion.PlanarMotion.{PlanarMotion}
-use Rattle.planar.specs.declared.motion.Composed.{Composed}
-use Rattle.planar.specs.declared.motion.Outcome.{Outcome}
-use Rattle.planar.specs.declared.motion.Outcome.the-variants as O
+use Rattle.sincos.specs.Turn.{turnOf, aboveFour}
+use Rattle.mat3.specs.Matrix.{rows, yaw, product, transform, transpose, sum, scaled}
+use Rattle.vec3.specs.Vector.{coordinate}
+use Rattle.planar.specs.declared.PlanarMotion.{PlanarMotion}
+use Rattle.planar.specs.declared.Composed.{Composed}
+use Rattle.planar.specs.declared.Outcome.{Outcome}
+use Rattle.planar.specs.declared.Outcome.the-variants as O
 use Rattle.planar.specs.Motion.{dx, dy, heading, identity, finiteMotion}
 
 -- "The heading sum S is kept when −PI ≤ S ≤ PI, else TAU is taken off or added once."
@@ -57,6 +58,10 @@ saidOutcome O.AngleRange = refusal 8
 
 abbrev pub toldComposed : Composed → Told PlanarMotion
 toldComposed r = record { outcome = saidOutcome (r .outcome); value = r .motion }
+
+-- a refusal beside no motion: the words of a private function
+abbrev pub refusedMotion : Outcome → Told PlanarMotion
+refusedMotion o = record { outcome = saidOutcome o; value = identity }
 
 -- "Public composing refuses 2 for any input not finite, then 8 for a heading above 4 in size, then 2 for the result."
 unfoldable pub composeOf : PlanarMotion → PlanarMotion → Told PlanarMotion

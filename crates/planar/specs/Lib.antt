@@ -1,4 +1,3 @@
--- Planar motions, in 01's order: what a motion is, composing, the arc of a constant twist.
+-- Planar motions, in 01's order: what a motion is, and composing.
 pub mod Motion
 pub mod Compose
-pub mod Arc

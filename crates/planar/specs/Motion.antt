@@ -3,8 +3,9 @@ use mathlib.Core.Bool.{Bool, _&&_}
 use mathlib.Core.List.{[], _∷_}
 use lib.Ieee.{Float}
 use Rattle.number.specs.Constants.{zero as +0}
-use Rattle.mat3.specs.Matrix.{coordinate, zeros, finiteVector, finiteMatrix}
-use Rattle.planar.specs.declared.motion.PlanarMotion.{PlanarMotion}
+use Rattle.mat3.specs.Matrix.{zeros, finiteMatrix}
+use Rattle.vec3.specs.Vector.{coordinate, finiteVector}
+use Rattle.planar.specs.declared.PlanarMotion.{PlanarMotion}
 
 abbrev pub dx : PlanarMotion → Float
 dx m = coordinate (m .delta) 0

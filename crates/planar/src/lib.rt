@@ -1,11 +1,23 @@
-// Planar motions of the cart's base: composing two, and the arc that a constant twist makes. From the lower half of kornia's wheel.rs.
-pub mod exponential;
+// Planar motions of the cart's base, and the composing of two. From kornia's wheel.rs.
 pub mod motion;
 
-pub use exponential::Arc;
-pub use exponential::Coefficients;
-pub use exponential::from_twist_increment;
-pub use exponential::se2_exp;
-pub use motion::Composed;
-pub use motion::Outcome;
-pub use motion::PlanarMotion;
+pub use motion::carried;
+pub use motion::turn_matrix;
+
+// (dx, dy, dθ): base j in base i, metres and radians; and the covariance of the three, column by column.
+pub struct PlanarMotion {
+    pub delta: [f64; 3],
+    pub covariance: [f64; 9],
+}
+
+pub enum Outcome {
+    Accepted,
+    NonFinite,
+    AngleRange,
+}
+
+// The composed motion, or a refusal beside the identity.
+pub struct Composed {
+    pub outcome: Outcome,
+    pub motion: PlanarMotion,
+}

@@ -1,27 +1,12 @@
 // A planar motion with its covariance, and the composing of two.
 ghost use mathlib.Core.Path.{_≡_};
-ghost use Rattle.planar.specs.Compose.{carried as carriedOf, composeOf, composed as composedOf, firstJacobian, symmetrized as symmetrizedOf, toldComposed, turnMatrix, wrapped as wrappedOf};
+ghost use Rattle.planar.specs.Compose.{carried as carriedOf, composeOf, composed as composedOf, firstJacobian, refusedMotion, symmetrized as symmetrizedOf, toldComposed, turnMatrix, wrapped as wrappedOf};
 ghost use Rattle.planar.specs.Motion.{finiteMotion};
+use crate::Composed;
+use crate::Outcome;
+use crate::PlanarMotion;
 use number::PI;
 use number::TAU;
-
-// (dx, dy, dθ): base j in base i, metres and radians; and the covariance of the three, column by column.
-pub struct PlanarMotion {
-    pub delta: [f64; 3],
-    pub covariance: [f64; 9],
-}
-
-pub enum Outcome {
-    Accepted,
-    NonFinite,
-    AngleRange,
-}
-
-// The composed motion, or a refusal beside the identity.
-pub struct Composed {
-    pub outcome: Outcome,
-    pub motion: PlanarMotion,
-}
 
 impl PlanarMotion {
     // No motion, no uncertainty.
@@ -35,7 +20,7 @@ impl PlanarMotion {
     {
         let delta = self.delta;
         let covariance = self.covariance;
-        mat3::is_finite_vector(delta) & mat3::is_finite(covariance)
+        vec3::is_finite_vector(delta) & mat3::is_finite(covariance)
     }
 
     // The motion `self` then `next`. The covariance propagates to first order through the composition; the two motions' noise is independent.
@@ -43,25 +28,16 @@ impl PlanarMotion {
         ensures { λ r. ⌜ toldComposed r ≡ composeOf self next ⌝ }
     {
         if !(self.is_finite() & next.is_finite()) {
-            return Composed {
-                outcome: Outcome::NonFinite,
-                motion: PlanarMotion::IDENTITY,
-            };
+            return refused(Outcome::NonFinite);
         }
         let a = self.delta;
         let b = next.delta;
-        if number::is_above_four(a[2]) | number::is_above_four(b[2]) {
-            return Composed {
-                outcome: Outcome::AngleRange,
-                motion: PlanarMotion::IDENTITY,
-            };
+        if sincos::is_above_four(a[2]) | sincos::is_above_four(b[2]) {
+            return refused(Outcome::AngleRange);
         }
         let motion = self.composed(next);
         if !motion.is_finite() {
-            return Composed {
-                outcome: Outcome::NonFinite,
-                motion: PlanarMotion::IDENTITY,
-            };
+            return refused(Outcome::NonFinite);
         }
         Composed {
             outcome: Outcome::Accepted,
@@ -90,6 +66,16 @@ impl PlanarMotion {
     }
 }
 
+// A refusal, beside no motion.
+fn refused(outcome: Outcome) -> Composed
+    ensures { λ r. ⌜ toldComposed r ≡ refusedMotion outcome ⌝ }
+{
+    Composed {
+        outcome,
+        motion: PlanarMotion::IDENTITY,
+    }
+}
+
 // A heading sum back within half a turn, by one turn at most.
 fn wrapped(s: f64) -> f64
     ensures { λ r. ⌜ r ≡ wrappedOf s ⌝ }
@@ -106,7 +92,7 @@ fn wrapped(s: f64) -> f64
 pub fn turn_matrix(heading: f64) -> [f64; 9]
     ensures { λ r. ⌜ r ≡ turnMatrix heading ⌝ }
 {
-    let v = number::evaluate(heading);
+    let v = sincos::turn_of(heading);
     mat3::yaw(v.sin, v.cos)
 }
 

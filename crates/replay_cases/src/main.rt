@@ -31,7 +31,7 @@ fn replay_next(i: u64) -> bool {
     io::print_decimal(STDOUT_FILENO, i);
     io::write_all(STDOUT_FILENO, b"\n");
     let mut out = io::large_buffer();
-    let r = walk_log::replay(&log[..n], &mut out);
+    let r = log_lines::replay(&log[..n], &mut out);
     io::write_all(STDOUT_FILENO, &out[..r])
 }
 

@@ -18,6 +18,6 @@ joinedOf (Limit a) Absent = Limit a
 joinedOf (Limit a) (Limit b) = Limit b when tighter a b else Limit a
 
 -- "a positive Huber threshold if any"
-abbrev pub fitHuber : Huber → Bool
-fitHuber Absent = true
-fitHuber (Limit a) = finitePositive a
+abbrev pub validHuber : Huber → Bool
+validHuber Absent = true
+validHuber (Limit a) = finitePositive a

@@ -1,6 +1,6 @@
 // The Huber limit that wheel and still factors share: a threshold on a residual's chi², or none.
 ghost use mathlib.Core.Path.{_≡_};
-ghost use Rattle.robust.specs.Huber.{fitHuber, joinedOf, tighter};
+ghost use Rattle.robust.specs.Huber.{validHuber, joinedOf, tighter};
 
 pub enum Huber {
     // The factor stays quadratic.
@@ -28,7 +28,7 @@ impl Huber {
 
     // Absent, or finite and above 0.
     pub fn is_valid(self) -> bool
-        ensures { λ r. ⌜ r ≡ fitHuber self ⌝ }
+        ensures { λ r. ⌜ r ≡ validHuber self ⌝ }
     {
         match self {
             Huber::Absent => true,

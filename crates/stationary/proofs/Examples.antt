@@ -10,9 +10,9 @@ use Rattle.number.specs.Constants.{zero, half, one, c2}
 use Rattle.number.specs.Said.{gives}
 use Rattle.robust.specs.Huber.{tighter}
 use Rattle.inertial.specs.declared.ImuCalib.{ImuCalib}
-use Rattle.stationary.specs.declared.factor.StationaryFactor.{StationaryFactor}
-use Rattle.stationary.specs.declared.factor.StationaryGyro.{StationaryGyro}
-use Rattle.stationary.specs.Factor.{factorOf, withGyro, finiteMean, fitFactor, fitSigmas, fitWalk}
+use Rattle.stationary.specs.declared.StationaryFactor.{StationaryFactor}
+use Rattle.stationary.specs.declared.StationaryGyro.{StationaryGyro}
+use Rattle.stationary.specs.Factor.{factorOf, withGyro, finiteMean, validFactor, validSigmas, validWalk}
 use Rattle.stationary.specs.Join.{composeOf, joinedFactor}
 
 abbrev pub noisy : Float → ImuCalib
@@ -31,11 +31,11 @@ abbrev pub joined : StationaryFactor
 joined = withGyro (factorOf 0 2 c2 (noisy zero)) rate
 
 pub record InvalidJoin : Type 0 where
-  pub first-valid : fitFactor first ≡ true
-  pub second-valid : fitFactor second ≡ true
+  pub first-valid : validFactor first ≡ true
+  pub second-valid : validFactor second ≡ true
   pub composition-given : composeOf first second ≡ gives joined
-  pub join-invalid : fitFactor joined ≡ false
+  pub join-invalid : validFactor joined ≡ false
 
 pub invalid-join : InvalidJoin
-unfolding Ieee.ofBits Ieee.add Ieee.lt Ieee.isNan finitePositive finiteMean fitFactor fitSigmas fitWalk larger tighter composeOf joinedFactor
+unfolding Ieee.ofBits Ieee.add Ieee.lt Ieee.isNan finitePositive finiteMean validFactor validSigmas validWalk larger tighter composeOf joinedFactor
 invalid-join = record { first-valid = refl; second-valid = refl; composition-given = refl; join-invalid = refl }

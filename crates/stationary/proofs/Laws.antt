@@ -10,20 +10,18 @@ use lib.Ieee.{Float, isNan}
 use borrow.Author.Tests.{eq-eqb, eqb-true, eqb-false}
 use Rattle.number.specs.Float.{finite, larger, _⊕_, _<ᶠ_, _≤ᶠ_, _when_else_}
 use Rattle.number.specs.Fit.{finitePositive}
-use Rattle.number.specs.Said.{Said, gives, refusal, Told, refuses}
+use Rattle.number.specs.Said.{Said, gives, refusal}
 use Rattle.number.proofs.float.Order.{<ᶠ-irreflexive}
 use Rattle.number.proofs.float.Monotone.{<ᶠ-≤ᶠ, not-below, finite-no-nan}
-use Rattle.robust.specs.Huber.{fitHuber, joinedOf}
-use Rattle.stationary.specs.declared.factor.StationaryFactor.{StationaryFactor}
-use Rattle.stationary.specs.declared.information.StationaryInfo.{StationaryInfo}
-use Rattle.stationary.specs.Factor.{fitFactor, fitGyro, fitSigmas, fitWalk}
+use Rattle.robust.specs.Huber.{validHuber, joinedOf}
+use Rattle.stationary.specs.declared.StationaryFactor.{StationaryFactor}
+use Rattle.stationary.specs.Factor.{validFactor, validGyro, validSigmas, validWalk}
 use Rattle.stationary.specs.Join.{composeOf, finiteGyro, joinedFactor, joinedGyro}
-use Rattle.stationary.specs.Information.{blankInfo, informationOf}
 
 -- ---- which answer
 
 -- Of valid factors at a shared index: 10 where the ends coincide, else 2 where the new span, mean or covered time is not finite, else the joined factor.
-pub composed-at-shared-index : (a b : StationaryFactor) → fitFactor a ≡ true → fitFactor b ≡ true → a .«to_idx» ≡ b .«from_idx»
+pub composed-at-shared-index : (a b : StationaryFactor) → validFactor a ≡ true → validFactor b ≡ true → a .«to_idx» ≡ b .«from_idx»
     → composeOf a b ≡
     (refusal 10 when eqb (a .«from_idx») (b .«to_idx») else
     refusal 2 when not (finite (a .«span_s» ⊕ b .«span_s») && finiteGyro (joinedGyro (a .gyro) (b .gyro))) else
@@ -87,11 +85,11 @@ record Sigmas (f : StationaryFactor) : Type 0 where
   rotation : finitePositive (f .«rotation_sigma_rad») ≡ true
   velocity : finitePositive (f .«velocity_sigma_m_s») ≡ true
 
-valid-sigmas : (f : StationaryFactor) → fitFactor f ≡ true → Sigmas f
-unfolding fitFactor fitSigmas
+valid-sigmas : (f : StationaryFactor) → validFactor f ≡ true → Sigmas f
+unfolding validFactor validSigmas
 valid-sigmas f h =
     let apart = not (eqb (f .«from_idx») (f .«to_idx»)) in
-    let fit = third apart (finitePositive (f .«span_s»)) (fitSigmas f) (fitWalk (f .calib)) (fitHuber (f .«huber_chi2»)) (fitGyro (f .gyro) (f .calib .«gyro_noise»)) h in
+    let fit = third apart (finitePositive (f .«span_s»)) (validSigmas f) (validWalk (f .calib)) (validHuber (f .«huber_chi2»)) (validGyro (f .gyro) (f .calib .«gyro_noise»)) h in
     let three = all-three (finitePositive (f .«translation_sigma_m»)) (finitePositive (f .«rotation_sigma_rad»)) (finitePositive (f .«velocity_sigma_m_s»)) fit in
     record { translation = three .0; rotation = three .1; velocity = three .2 }
 
@@ -99,8 +97,8 @@ valid-sigmas f h =
 
 -- what a composition that is given says of the two factors and of itself
 pub record Joins (a b f : StationaryFactor) : Type 0 where
-  pub first-valid : fitFactor a ≡ true
-  pub second-valid : fitFactor b ≡ true
+  pub first-valid : validFactor a ≡ true
+  pub second-valid : validFactor b ≡ true
   pub meet : a .«to_idx» ≡ b .«from_idx»
   pub first-start-kept : f .«from_idx» ≡ a .«from_idx»
   pub last-end-kept : f .«to_idx» ≡ b .«to_idx»
@@ -121,7 +119,7 @@ composition-joins a b f h =
     let valid = passed 11 _ _ f h in
     let meeting = passed 10 _ _ f (valid .1) in
     let numbers = passed 2 _ _ f (meeting .1) in
-    let fit = both (fitFactor a) (fitFactor b) (valid .0) in
+    let fit = both (validFactor a) (validFactor b) (valid .0) in
     let ends = first-alone (eqb (a .«to_idx») (b .«from_idx»)) (eqb (a .«from_idx») (b .«to_idx»)) (meeting .0) in
     let sums = both (finite (a .«span_s» ⊕ b .«span_s»)) (finiteGyro (joinedGyro (a .gyro) (b .gyro))) (numbers .0) in
     let joined : f ≡ joinedFactor a b = cc (numbers .1) in
@@ -144,14 +142,3 @@ composition-joins a b f h =
       rotation-looser = larger-looser (a .«rotation_sigma_rad») (b .«rotation_sigma_rad») (s .rotation) (t .rotation);
       velocity-looser = larger-looser (a .«velocity_sigma_m_s») (b .«velocity_sigma_m_s») (s .velocity) (t .velocity);
     })
-
--- ---- the information
-
--- a factor that `information` does not refuse is valid
-pub informed-valid : (f : StationaryFactor) → informationOf f .outcome ≡ gives tt → fitFactor f ≡ true
-unfolding informationOf
-informed-valid f h = go (fitFactor f) _ h
-  where
-    go : (b : Bool) (rest : Told StationaryInfo) → (refuses 11 blankInfo when not b else rest) .outcome ≡ gives tt → b ≡ true
-    go true rest h = refl
-    go false rest h = let z : _≡_ {A = ℕ} 0 1 = cc in absurd (omega arith)

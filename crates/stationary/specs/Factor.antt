@@ -7,12 +7,12 @@ use Rattle.number.specs.Float.{finite}
 use Rattle.number.specs.Fit.{finitePositive}
 use Rattle.number.specs.Constants.{c0·01, c0·002, c21·03}
 use Rattle.robust.specs.declared.Huber.the-variants.{Limit}
-use Rattle.robust.specs.Huber.{fitHuber}
+use Rattle.robust.specs.Huber.{validHuber}
 use Rattle.inertial.specs.declared.ImuCalib.{ImuCalib}
-use Rattle.stationary.specs.declared.factor.StationaryGyro.{StationaryGyro}
-use Rattle.stationary.specs.declared.factor.GyroMean.{GyroMean}
-use Rattle.stationary.specs.declared.factor.GyroMean.the-variants.{Unmeasured, Measured}
-use Rattle.stationary.specs.declared.factor.StationaryFactor.{StationaryFactor}
+use Rattle.stationary.specs.declared.StationaryGyro.{StationaryGyro}
+use Rattle.stationary.specs.declared.GyroMean.{GyroMean}
+use Rattle.stationary.specs.declared.GyroMean.the-variants.{Unmeasured, Measured}
+use Rattle.stationary.specs.declared.StationaryFactor.{StationaryFactor}
 
 -- the default sigmas 0.002, 0.002 and 0.01, the default limit 21.03 and no gyro mean
 abbrev pub factorOf : ℕ → ℕ → Float → ImuCalib → StationaryFactor
@@ -45,23 +45,23 @@ unfoldable pub finiteMean : StationaryGyro → Bool
 finiteMean g = finite (g .x) && finite (g .y) && finite (g .z)
 
 -- "a finite gyro mean over a positive time (with a positive gyro noise density)", if there is one
-abbrev pub fitGyro : GyroMean → Float → Bool
-fitGyro Unmeasured noise = true
-fitGyro (Measured g) noise = finitePositive (g .«covered_s») && finitePositive noise && finiteMean g
+abbrev pub validGyro : GyroMean → Float → Bool
+validGyro Unmeasured noise = true
+validGyro (Measured g) noise = finitePositive (g .«covered_s») && finitePositive noise && finiteMean g
 
-unfoldable pub fitSigmas : StationaryFactor → Bool
-fitSigmas f = finitePositive (f .«translation_sigma_m») && finitePositive (f .«rotation_sigma_rad») && finitePositive (f .«velocity_sigma_m_s»)
+unfoldable pub validSigmas : StationaryFactor → Bool
+validSigmas f = finitePositive (f .«translation_sigma_m») && finitePositive (f .«rotation_sigma_rad») && finitePositive (f .«velocity_sigma_m_s»)
 
-unfoldable pub fitWalk : ImuCalib → Bool
-fitWalk c = finitePositive (c .«gyro_bias_noise») && finitePositive (c .«accel_bias_noise»)
+unfoldable pub validWalk : ImuCalib → Bool
+validWalk c = finitePositive (c .«gyro_bias_noise») && finitePositive (c .«accel_bias_noise»)
 
 -- "two distinct keyframes, a positive finite span, sigmas and bias densities, a positive Huber threshold if any, and a finite gyro mean over a
 -- positive time"
-unfoldable pub fitFactor : StationaryFactor → Bool
-fitFactor f =
+unfoldable pub validFactor : StationaryFactor → Bool
+validFactor f =
     not (eqb (f .«from_idx») (f .«to_idx»))
     && finitePositive (f .«span_s»)
-    && fitSigmas f
-    && fitWalk (f .calib)
-    && fitHuber (f .«huber_chi2»)
-    && fitGyro (f .gyro) (f .calib .«gyro_noise»)
+    && validSigmas f
+    && validWalk (f .calib)
+    && validHuber (f .«huber_chi2»)
+    && validGyro (f .gyro) (f .calib .«gyro_noise»)

@@ -6,13 +6,13 @@ use lib.Ieee.{Float}
 use Rattle.number.specs.Float.{_⊕_, _⊗_, _⊘_, _when_else_, finite, larger}
 use Rattle.number.specs.Said.{Said, gives, refusal}
 use Rattle.robust.specs.Huber.{joinedOf}
-use Rattle.stationary.specs.declared.factor.StationaryGyro.{StationaryGyro}
-use Rattle.stationary.specs.declared.factor.GyroMean.{GyroMean}
-use Rattle.stationary.specs.declared.factor.GyroMean.the-variants.{Unmeasured, Measured}
-use Rattle.stationary.specs.declared.factor.StationaryFactor.{StationaryFactor}
-use Rattle.stationary.specs.declared.join.Joined.{Joined}
-use Rattle.stationary.specs.declared.join.Joined.the-variants as J
-use Rattle.stationary.specs.Factor.{finiteMean, fitFactor}
+use Rattle.stationary.specs.declared.StationaryGyro.{StationaryGyro}
+use Rattle.stationary.specs.declared.GyroMean.{GyroMean}
+use Rattle.stationary.specs.declared.GyroMean.the-variants.{Unmeasured, Measured}
+use Rattle.stationary.specs.declared.StationaryFactor.{StationaryFactor}
+use Rattle.stationary.specs.declared.Joined.{Joined}
+use Rattle.stationary.specs.declared.Joined.the-variants as J
+use Rattle.stationary.specs.Factor.{finiteMean, validFactor}
 
 -- (a·s + b·t) / (s + t)
 abbrev pub weighted : Float → Float → Float → Float → Float
@@ -58,7 +58,7 @@ saidJoined J.NonFinite = refusal 2
 
 unfoldable pub composeOf : StationaryFactor → StationaryFactor → Said StationaryFactor
 composeOf a b =
-    refusal 11 when not (fitFactor a && fitFactor b) else
+    refusal 11 when not (validFactor a && validFactor b) else
     refusal 10 when (not (eqb (a .«to_idx») (b .«from_idx»)) || eqb (a .«from_idx») (b .«to_idx»)) else
     refusal 2 when not (finite (joinedFactor a b .«span_s») && finiteGyro (joinedFactor a b .gyro)) else
     gives (joinedFactor a b)

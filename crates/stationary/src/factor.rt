@@ -1,37 +1,11 @@
 // A stationary constraint between two keyframes, over a span of any length. Its caller says that the stretch is still.
 ghost use mathlib.Core.Path.{_≡_};
-ghost use Rattle.stationary.specs.Factor.{factorOf, finiteMean, fitFactor, fitGyro, fitSigmas, fitWalk, withGyro};
+ghost use Rattle.stationary.specs.Factor.{factorOf, finiteMean, validFactor, validGyro, validSigmas, validWalk, withGyro};
+use crate::GyroMean;
+use crate::StationaryFactor;
+use crate::StationaryGyro;
 use inertial::ImuCalib;
 use robust::Huber;
-
-// The mean raw gyro rate in rad/s, body frame, and the seconds of samples behind it.
-pub struct StationaryGyro {
-    pub x: f64,
-    pub y: f64,
-    pub z: f64,
-    pub covered_s: f64,
-}
-
-pub enum GyroMean {
-    Unmeasured,
-    Measured(StationaryGyro),
-}
-
-pub struct StationaryFactor {
-    // Earlier and later keyframe.
-    pub from_idx: usize,
-    pub to_idx: usize,
-    // Seconds between the two: scales the bias random walk.
-    pub span_s: f64,
-    pub gyro: GyroMean,
-    pub calib: ImuCalib,
-    // Sigmas of the zero relative translation (m) and rotation (rad), and of the zero velocity at each end (m/s).
-    pub translation_sigma_m: f64,
-    pub rotation_sigma_rad: f64,
-    pub velocity_sigma_m_s: f64,
-    // Threshold on the twelve-row pose and velocity chi².
-    pub huber_chi2: Huber,
-}
 
 impl StationaryGyro {
     pub fn new(x: f64, y: f64, z: f64, covered_s: f64) -> StationaryGyro
@@ -85,21 +59,21 @@ impl StationaryFactor {
 
     // Whether the factor can enter a solve.
     pub fn is_valid(self) -> bool
-        ensures { λ r. ⌜ r ≡ fitFactor self ⌝ }
+        ensures { λ r. ⌜ r ≡ validFactor self ⌝ }
     {
         let calib = self.calib;
         let huber = self.huber_chi2;
         let gyro = self.gyro;
         (self.from_idx != self.to_idx)
             & number::is_finite_positive(self.span_s)
-            & self.has_sigmas()
-            & has_walk(calib)
+            & self.has_valid_sigmas()
+            & has_valid_walk(calib)
             & huber.is_valid()
             & gyro.is_valid(calib.gyro_noise)
     }
 
-    fn has_sigmas(self) -> bool
-        ensures { λ r. ⌜ r ≡ fitSigmas self ⌝ }
+    fn has_valid_sigmas(self) -> bool
+        ensures { λ r. ⌜ r ≡ validSigmas self ⌝ }
     {
         number::is_finite_positive(self.translation_sigma_m)
             & number::is_finite_positive(self.rotation_sigma_rad)
@@ -110,7 +84,7 @@ impl StationaryFactor {
 impl GyroMean {
     // No mean, or a finite one over a time above 0, with a gyro noise above 0.
     fn is_valid(self, noise: f64) -> bool
-        ensures { λ r. ⌜ r ≡ fitGyro self noise ⌝ }
+        ensures { λ r. ⌜ r ≡ validGyro self noise ⌝ }
     {
         match self {
             GyroMean::Unmeasured => true,
@@ -123,8 +97,8 @@ impl GyroMean {
     }
 }
 
-fn has_walk(calib: ImuCalib) -> bool
-    ensures { λ r. ⌜ r ≡ fitWalk calib ⌝ }
+fn has_valid_walk(calib: ImuCalib) -> bool
+    ensures { λ r. ⌜ r ≡ validWalk calib ⌝ }
 {
     number::is_finite_positive(calib.gyro_bias_noise)
         & number::is_finite_positive(calib.accel_bias_noise)

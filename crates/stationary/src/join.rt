@@ -1,16 +1,10 @@
 // Two stretches through a removed keyframe become one.
 ghost use mathlib.Core.Path.{_≡_};
 ghost use Rattle.stationary.specs.Join.{composeOf, finiteGyro, joinedFactor, joinedGyro, meanOf, saidJoined, weighted as weightedOf};
-use crate::factor::GyroMean;
-use crate::factor::StationaryFactor;
-use crate::factor::StationaryGyro;
-
-pub enum Joined {
-    Factor(StationaryFactor),
-    InvalidFactor,
-    NotJoined,
-    NonFinite,
-}
+use crate::GyroMean;
+use crate::Joined;
+use crate::StationaryFactor;
+use crate::StationaryGyro;
 
 impl StationaryFactor {
     // The factor from `self`'s start to `next`'s end. The sigmas are the looser of the two: the relative pose of two keyframes of one stop is zero

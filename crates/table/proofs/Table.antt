@@ -8,11 +8,11 @@ use Rattle.number.specs.Float.{nearestTo}
 use Rattle.number.specs.Constants.{one, c2}
 use Rattle.number.specs.Constants.{zero as +0}
 use Rattle.number.specs.Halving.{halvingCount}
-use Rattle.number.specs.Root.{sqrtOf, rootOf, grains, next}
+use Rattle.root.specs.Root.{sqrtOf, rootOf, grains, next}
 use Rattle.number.specs.Said.{gives}
 use Rattle.number.proofs.whole.Laws.{examples as conversions}
 use Rattle.number.proofs.tick.Laws.{wraps}
-use Rattle.wheel.specs.Drive.{fitDrive, finiteTwist, twistAsked, twistOf}
+use Rattle.drive.specs.Drive.{validDrive, finiteTwist, twistAsked, twistOf}
 use Rattle.wheel_odom.proofs.Examples.{examples}
 use Rattle.table.specs.Table.{Table, drive, over, whole}
 
@@ -41,7 +41,7 @@ unfolding halvingCount next Ieee.toBits Ieee.ofBits Ieee.round Ieee.lt Ieee.le I
 ratio-next = refl
 
 twist : twistAsked drive one c2 ≡ gives (record { vx = nearestTo 3 4; vy = +0; wz = c2 })
-unfolding twistAsked twistOf fitDrive finiteTwist finitePositive Ieee.ofBits Ieee.round Ieee.add Ieee.sub Ieee.mul Ieee.div Ieee.lt
+unfolding twistAsked twistOf validDrive finiteTwist finitePositive Ieee.ofBits Ieee.round Ieee.add Ieee.sub Ieee.mul Ieee.div Ieee.lt
 twist = refl
 
 pub table : Table

@@ -9,13 +9,13 @@ use Rattle.number.specs.Float.{−_, nearestTo}
 use Rattle.number.specs.Constants.{half, one, c2}
 use Rattle.number.specs.Constants.{zero as +0}
 use Rattle.number.specs.Halving.{halvingCount}
-use Rattle.number.specs.Root.{sqrtOf, next}
+use Rattle.root.specs.Root.{sqrtOf, next}
 use Rattle.number.specs.Said.{gives, refusal}
 use Rattle.number.specs.Ticks.{tickDifference}
 use Rattle.number.specs.Whole.{wholeToFloat}
 use Rattle.mat3.specs.Matrix.{diagonal}
-use Rattle.wheel.specs.declared.drive.DifferentialDrive.{DifferentialDrive}
-use Rattle.wheel.specs.Drive.{twistAsked}
+use Rattle.drive.specs.declared.DifferentialDrive.{DifferentialDrive}
+use Rattle.drive.specs.Drive.{twistAsked}
 use Rattle.wheel_odom.specs.Measurement.{withDefaults}
 use Rattle.wheel_odom.specs.Information.{informationOf}
 
@@ -34,7 +34,7 @@ pub record Table : Type 0 where
   -- "2^53+1 converts to 2^53; 2^63−1 to 2^63": number::whole_to_f64
   pub tie-to-even : wholeToFloat (pos (2 ^ 53 + 1)) ≡ whole (2 ^ 53)
   pub greatest : wholeToFloat (pos (2 ^ 63 - 1)) ≡ whole (2 ^ 63)
-  -- "root of 2^−1074 is 2^−537": number::sqrt
+  -- "root of 2^−1074 is 2^−537": root::sqrt
   pub least-root : sqrtOf (over (2 ^ 1074)) ≡ gives (over (2 ^ 537))
   -- "the tick wrap above": "From 2^63−1 to −2^63 it is 1": number::tick_difference
   pub tick-wrap : tickDifference (pos (2 ^ 63 - 1)) (negsuc (2 ^ 63 - 1)) ≡ pos 1
@@ -42,7 +42,7 @@ pub record Table : Type 0 where
   pub ratio-one : halvingCount one ≡ 0
   pub ratio-thousand : halvingCount (whole 1024) ≡ 10
   pub ratio-next : halvingCount (next (whole 1024)) ≡ 11
-  -- "r 0.5, track 0.25, rates 1, 2 give vx 0.75, wz 2": wheel::DifferentialDrive::twist
+  -- "r 0.5, track 0.25, rates 1, 2 give vx 0.75, wz 2": drive::DifferentialDrive::twist
   pub twist : twistAsked drive one c2 ≡ gives (record { vx = nearestTo 3 4; vy = +0; wz = c2 })
   -- "covariance diag(−1,−1,1) gives 9": wheel_odom::WheelOdomMeasurement::information
   pub indefinite : informationOf (withDefaults (+0 ∷ +0 ∷ +0 ∷ []) (diagonal (− one) (− one) one)) .outcome ≡ refusal 9

@@ -1,9 +1,9 @@
 // 01's table of examples, run: each answer of the code in bits or digits. That the definitions give the same is proved (proofs/Table.antt).
+use drive::DifferentialDrive;
+use drive::Twisted;
 use libc::STDOUT_FILENO;
 use number::Halved;
-use number::Root;
-use wheel::DifferentialDrive;
-use wheel::Twisted;
+use root::Root;
 use wheel_odom::Information;
 use wheel_odom::WheelOdomMeasurement;
 
@@ -27,7 +27,7 @@ fn main() {
 }
 
 fn print_root(x: f64) {
-    match number::sqrt(x) {
+    match root::sqrt(x) {
         Root::Value(r) => print_f64(r),
         Root::NonFinite => write(b"refused 2\n"),
     }

@@ -1,24 +1,38 @@
-// Wheel-encoder odometry: readings, the drive, the noise, and the integrator that takes one reading at a time. From kornia's wheel.rs.
-pub mod drive;
-pub mod noise;
-pub mod preintegration;
-pub mod reading;
-pub mod refusal;
-pub mod run;
+// Wheel odometry: the integrator that takes one reading at a time. From the lower half of kornia's wheel.rs.
+pub mod state;
+pub mod step;
 
-pub use drive::BodyTwist;
-pub use drive::DifferentialDrive;
-pub use drive::Jacobian;
-pub use drive::Rated;
-pub use drive::TwistColumns;
-pub use drive::Twisted;
-pub use drive::WheelRates;
-pub use noise::WheelNoise;
-pub use preintegration::Answer;
-pub use preintegration::Last;
-pub use preintegration::WheelPreintegration;
-pub use reading::Reading;
-pub use reading::WheelMeasurement;
-pub use refusal::Outcome;
-pub use refusal::Refusal;
-pub use run::Event;
+use drive::DifferentialDrive;
+use drive::Refusal;
+use drive::WheelMeasurement;
+use drive::WheelNoise;
+use interval::Accumulated;
+
+// The last reading that was taken, where the next interval starts.
+pub enum Last {
+    Nothing,
+    At(WheelMeasurement),
+}
+
+// What an integrator is made with.
+pub struct Settings {
+    pub drive: DifferentialDrive,
+    pub noise: WheelNoise,
+}
+
+pub struct WheelPreintegration {
+    pub settings: Settings,
+    pub accumulated: Accumulated,
+    pub last: Last,
+}
+
+pub enum Outcome {
+    Accepted,
+    Refused(Refusal),
+}
+
+// What became of a call, beside the state: the new one, or the one that was handed in.
+pub struct Answer {
+    pub outcome: Outcome,
+    pub state: WheelPreintegration,
+}

@@ -1,442 +1,349 @@
 // Walks through the wheel integrator by the records of standard input, and writes what becomes of each and the state after it, in bits. A
 // record is sixteen little-endian words of 64 bits: its kind, and what goes in. tools/wheel_cases.py makes the input and the expected output.
-use libc::STDIN_FILENO;
-use libc::STDOUT_FILENO;
+//
+//    1  begin a walk: radius, track, ticks per turn, the noise of a wheel's rate, the lateral noise; in the last word the number of the walk
+//    2  the same with the noise that is set beforehand
+//    3  integrate ticks: whether it is valid (1), the time, left and right; 4 rates
+//    5  restart
+//    6  hand in the drive and the noise, as in 1
+//    7  hand in the motion's three numbers, and dt
+//    8  hand in the nine of its covariance, behind three words
+//    9  hand in that nothing was read last; 10 ticks, as in 3; 11 rates
+//   12  the twist of two rates
+//   13  the rates of two differences of ticks over a time
+//   14  the Jacobian
+//   15  the stored motion composed with another: three numbers and the nine of a covariance
+use drive::BodyTwist;
+use drive::DifferentialDrive;
+use drive::Jacobian;
+use drive::Rated;
+use drive::Reading;
+use drive::Refusal;
+use drive::Twisted;
+use drive::WheelMeasurement;
+use drive::WheelNoise;
+use interval::Accumulated;
 use planar::PlanarMotion;
-use wheel::Answer;
-use wheel::BodyTwist;
-use wheel::DifferentialDrive;
-use wheel::Jacobian;
 use wheel::Last;
 use wheel::Outcome;
-use wheel::Rated;
-use wheel::Reading;
-use wheel::Refusal;
-use wheel::Twisted;
-use wheel::WheelMeasurement;
-use wheel::WheelNoise;
+use wheel::Settings;
 use wheel::WheelPreintegration;
 
-// The integrator after some records, and whether the input may go on.
-struct Piece {
-    state: WheelPreintegration,
-    is_full: bool,
-}
-
-fn main() {
-    walk_input();
-}
-
 // A proved loop has to end, and nothing says that the input does. So the loop counts its turns down, from a number that no run uses up.
-fn walk_input() {
-    let mut state = none_begun();
+fn main() {
+    let none = WheelPreintegration::new(DifferentialDrive::BLANK, WheelNoise::BLANK);
+    let mut state = none.state;
     let mut turns = u64::MAX;
     while turns > 0 {
-        let piece = after_piece(state);
-        state = piece.state;
-        if !piece.is_full {
+        let kind = cases::read_word();
+        if kind == 0 {
             return;
         }
+        state = after_record(kind, state);
+        if kind < 12 {
+            print_state(kind, state);
+        }
+        cases::end_line();
         turns -= 1;
     }
 }
 
-// Before the first walk: the blank state that a refused making gives.
-fn none_begun() -> WheelPreintegration {
-    let drive = DifferentialDrive {
-        wheel_radius: 0.0,
-        track_width: 0.0,
-        ticks_per_revolution: 0.0,
-    };
-    let made = WheelPreintegration::new(drive, WheelNoise::DEFAULT);
-    made.state
-}
-
-// The next 512 records. A piece that is not full is the last.
-fn after_piece(state: WheelPreintegration) -> Piece {
-    let mut piece = [0u8; 65536];
-    let n = io::read_full(STDIN_FILENO, &mut piece);
-    Piece {
-        state: after_records(&piece[..n], state),
-        is_full: n == 65536,
+fn after_record(kind: u64, before: WheelPreintegration) -> WheelPreintegration {
+    match kind {
+        1 | 2 => begun(kind),
+        3 | 4 => stepped(kind, before),
+        5 => restarted(before),
+        6 => with_settings(kind, before),
+        7 => with_delta(before),
+        8 => with_covariance(before),
+        9 | 10 | 11 => with_last(kind, before),
+        _ => asked(kind, before),
     }
-}
-
-fn after_records(s: &[u8], before: WheelPreintegration) -> WheelPreintegration {
-    let mut state = before;
-    let mut i = 0;
-    while i < s.len() {
-        state = after_record(&s[i..], state);
-        i += 128;
-    }
-    state
-}
-
-// The state after the record at the front of s. Kinds 1 to 5 are the calls that give a state.
-fn after_record(s: &[u8], state: WheelPreintegration) -> WheelPreintegration {
-    match kind(s) {
-        1 => begun(s, noise_at(s)),
-        2 => begun(s, WheelNoise::DEFAULT),
-        3 => stepped(state, ticks_at(s)),
-        4 => stepped(state, rates_at(s)),
-        5 => restarted(state),
-        _ => after_other(s, state),
-    }
-}
-
-// Kinds 6 to 11 hand in a piece of the state, fit or not, and the others ask something of it.
-fn after_other(s: &[u8], state: WheelPreintegration) -> WheelPreintegration {
-    match kind(s) {
-        6 => given_parameters(with_parameters(state, s)),
-        7 => given(with_delta(state, s)),
-        8 => given(with_covariance(state, s)),
-        9 => given(with_last(state, Last::Nothing)),
-        10 => given(with_last(state, Last::At(ticks_at(s)))),
-        11 => given(with_last(state, Last::At(rates_at(s)))),
-        _ => asked(s, state),
-    }
-}
-
-// The kind of the record at the front of s. One that is cut short has none.
-fn kind(s: &[u8]) -> u64 {
-    if s.len() < 128 {
-        0
-    } else {
-        words::u64_at(s, 0)
-    }
-}
-
-// ---- what the record at the front of s holds
-
-// Radius, track and ticks per turn.
-fn drive_at(s: &[u8]) -> DifferentialDrive {
-    DifferentialDrive {
-        wheel_radius: words::f64_at(s, 8),
-        track_width: words::f64_at(s, 16),
-        ticks_per_revolution: words::f64_at(s, 24),
-    }
-}
-
-// Behind the drive: the noise of a wheel's rate, and the lateral noise.
-fn noise_at(s: &[u8]) -> WheelNoise {
-    WheelNoise {
-        wheel_rate: words::f64_at(s, 32),
-        lateral_velocity: words::f64_at(s, 40),
-    }
-}
-
-// Whether it is valid (1), the time, left and right.
-fn ticks_at(s: &[u8]) -> WheelMeasurement {
-    let m = WheelMeasurement::ticks(
-        words::f64_at(s, 16),
-        words::i64_at(s, 24),
-        words::i64_at(s, 32),
-    );
-    flagged(m, words::u64_at(s, 8))
-}
-
-fn rates_at(s: &[u8]) -> WheelMeasurement {
-    let m = WheelMeasurement::angular_velocity(
-        words::f64_at(s, 16),
-        words::f64_at(s, 24),
-        words::f64_at(s, 32),
-    );
-    flagged(m, words::u64_at(s, 8))
-}
-
-fn flagged(m: WheelMeasurement, flag: u64) -> WheelMeasurement {
-    WheelMeasurement {
-        valid: flag == 1,
-        ..m
-    }
-}
-
-// The three numbers of a motion.
-fn delta_at(s: &[u8]) -> [f64; 3] {
-    [
-        words::f64_at(s, 8),
-        words::f64_at(s, 16),
-        words::f64_at(s, 24),
-    ]
-}
-
-// Behind them, the nine of its covariance, column by column.
-fn covariance_at(s: &[u8]) -> [f64; 9] {
-    [
-        words::f64_at(s, 32),
-        words::f64_at(s, 40),
-        words::f64_at(s, 48),
-        words::f64_at(s, 56),
-        words::f64_at(s, 64),
-        words::f64_at(s, 72),
-        words::f64_at(s, 80),
-        words::f64_at(s, 88),
-        words::f64_at(s, 96),
-    ]
 }
 
 // ---- the calls that give a state
 
-// The last word of the record is the number of the walk.
-fn begun(s: &[u8], noise: WheelNoise) -> WheelPreintegration {
-    let made = WheelPreintegration::new(drive_at(s), noise);
-    let state = made.state;
-    write(b"walk ");
-    io::print_decimal(STDOUT_FILENO, words::u64_at(s, 120));
-    write(b"\n");
-    print_outcome(made, b"made");
-    print_parameters(state);
-    shown(state)
+fn begun(kind: u64) -> WheelPreintegration {
+    let settings = read_settings(kind);
+    let drive = settings.drive;
+    let noise = settings.noise;
+    let made = WheelPreintegration::new(drive, noise);
+    let outcome = made.outcome;
+    cases::print_count(b"walk ", cases::read_word());
+    cases::end_line();
+    print_outcome(outcome, b"made");
+    made.state
 }
 
-fn stepped(before: WheelPreintegration, m: WheelMeasurement) -> WheelPreintegration {
-    let answer = before.integrate(m);
-    let state = answer.state;
-    print_outcome(answer, b"accepted");
-    shown(state)
+fn stepped(kind: u64, before: WheelPreintegration) -> WheelPreintegration {
+    let answer = before.integrate(read_measurement(kind));
+    let outcome = answer.outcome;
+    print_outcome(outcome, b"accepted");
+    answer.state
 }
 
 fn restarted(before: WheelPreintegration) -> WheelPreintegration {
-    write(b"restarted");
-    shown(before.restart())
+    cases::skip(15);
+    cases::write(b"restarted");
+    before.restart()
 }
 
-// ---- pieces of a state, handed in
+// ---- pieces of a state, handed in, fit or not
 
-fn given_parameters(state: WheelPreintegration) -> WheelPreintegration {
-    write(b"given");
-    print_parameters(state);
-    shown(state)
+fn with_settings(kind: u64, before: WheelPreintegration) -> WheelPreintegration {
+    let settings = read_settings(kind);
+    cases::skip(1);
+    print_given();
+    WheelPreintegration { settings, ..before }
 }
 
-fn given(state: WheelPreintegration) -> WheelPreintegration {
-    write(b"given");
-    shown(state)
-}
-
-fn with_parameters(state: WheelPreintegration, s: &[u8]) -> WheelPreintegration {
+fn with_delta(before: WheelPreintegration) -> WheelPreintegration {
+    let delta = cases::read_three();
+    let dt = cases::read_f64();
+    cases::skip(11);
+    print_given();
+    let kept = before.motion();
+    let motion = PlanarMotion { delta, ..kept };
+    let accumulated = Accumulated { motion, dt };
     WheelPreintegration {
-        drive: drive_at(s),
-        noise: noise_at(s),
-        ..state
+        accumulated,
+        ..before
     }
 }
 
-// The motion's three numbers, and dt.
-fn with_delta(state: WheelPreintegration, s: &[u8]) -> WheelPreintegration {
-    let motion = state.motion;
+fn with_covariance(before: WheelPreintegration) -> WheelPreintegration {
+    let read = read_motion();
+    print_given();
+    let covariance = read.covariance;
+    let kept = before.motion();
+    let motion = PlanarMotion { covariance, ..kept };
+    let accumulated = Accumulated {
+        motion,
+        dt: before.dt(),
+    };
     WheelPreintegration {
-        motion: PlanarMotion {
-            delta: delta_at(s),
-            ..motion
-        },
-        dt: words::f64_at(s, 32),
-        ..state
+        accumulated,
+        ..before
     }
 }
 
-fn with_covariance(state: WheelPreintegration, s: &[u8]) -> WheelPreintegration {
-    let motion = state.motion;
-    WheelPreintegration {
-        motion: PlanarMotion {
-            covariance: covariance_at(s),
-            ..motion
-        },
-        ..state
-    }
-}
-
-fn with_last(state: WheelPreintegration, last: Last) -> WheelPreintegration {
-    WheelPreintegration { last, ..state }
+fn with_last(kind: u64, before: WheelPreintegration) -> WheelPreintegration {
+    let m = read_measurement(kind);
+    print_given();
+    let last = if kind == 9 {
+        Last::Nothing
+    } else {
+        Last::At(m)
+    };
+    WheelPreintegration { last, ..before }
 }
 
 // ---- what is asked, and leaves the state
 
-fn asked(s: &[u8], state: WheelPreintegration) -> WheelPreintegration {
-    let drive = state.drive;
-    match kind(s) {
-        12 => ask_twist(s, drive),
-        13 => ask_rates(s, drive),
+fn asked(kind: u64, state: WheelPreintegration) -> WheelPreintegration {
+    let settings = state.settings;
+    let drive = settings.drive;
+    match kind {
+        12 => ask_twist(drive),
+        13 => ask_rates(drive),
         14 => ask_jacobian(drive),
-        15 => ask_composed(s, state.motion()),
-        _ => write(b"no such kind"),
+        15 => ask_composed(state.motion()),
+        _ => cases::write(b"no such kind"),
     }
-    write(b"\n");
     state
 }
 
-fn ask_twist(s: &[u8], drive: DifferentialDrive) {
-    match drive.twist(words::f64_at(s, 8), words::f64_at(s, 16)) {
-        Twisted::Twist(v) => {
-            write(b"gives");
-            print_twist(v);
-        }
+fn ask_twist(drive: DifferentialDrive) {
+    let left = cases::read_f64();
+    let right = cases::read_f64();
+    cases::skip(13);
+    match drive.twist(left, right) {
+        Twisted::Twist(v) => print_twist(v),
         Twisted::Refused(why) => print_refusal(why),
     }
 }
 
-fn ask_rates(s: &[u8], drive: DifferentialDrive) {
-    match drive.wheel_rates_from_ticks(
-        words::i64_at(s, 8),
-        words::i64_at(s, 16),
-        words::f64_at(s, 24),
-    ) {
+fn ask_rates(drive: DifferentialDrive) {
+    let left = cases::read_i64();
+    let right = cases::read_i64();
+    let dt = cases::read_f64();
+    cases::skip(12);
+    match drive.wheel_rates_from_ticks(left, right, dt) {
         Rated::Rates(w) => {
-            write(b"gives");
-            print_f64(w.left);
-            print_f64(w.right);
+            cases::write(b"gives");
+            cases::print_f64(w.left);
+            cases::print_f64(w.right);
         }
         Rated::Refused(why) => print_refusal(why),
     }
 }
 
 fn ask_jacobian(drive: DifferentialDrive) {
+    cases::skip(15);
     match drive.twist_jacobian() {
         Jacobian::Columns(c) => {
             let left = c.left;
             let right = c.right;
-            write(b"gives");
             print_twist(left);
-            print_twist(right);
+            cases::print_three([right.vx, right.vy, right.wz]);
         }
         Jacobian::Refused(why) => print_refusal(why),
     }
 }
 
 // The stored motion, then the record's. Beside a refusal stands the motion that is blank by contract.
-fn ask_composed(s: &[u8], stored: PlanarMotion) {
-    let next = PlanarMotion {
-        delta: delta_at(s),
-        covariance: covariance_at(s),
-    };
-    let composed = stored.compose(next);
+fn ask_composed(stored: PlanarMotion) {
+    let composed = stored.compose(read_motion());
     let outcome = composed.outcome;
-    let motion = composed.motion;
     match outcome {
-        planar::Outcome::Accepted => write(b"gives"),
-        planar::Outcome::NonFinite => write(b"refused 2"),
-        planar::Outcome::AngleRange => write(b"refused 8"),
+        planar::Outcome::Accepted => cases::write(b"gives"),
+        planar::Outcome::NonFinite => cases::print_refused(2),
+        planar::Outcome::AngleRange => cases::print_refused(8),
     }
-    print_motion(motion);
+    print_motion(composed.motion);
+}
+
+// ---- what a record holds behind its kind: fifteen words, of which the last ones may say nothing
+
+// All but the last word, which is the number of a walk.
+fn read_settings(kind: u64) -> Settings {
+    let wheel_radius = cases::read_f64();
+    let track_width = cases::read_f64();
+    let ticks_per_revolution = cases::read_f64();
+    let wheel_rate = cases::read_f64();
+    let lateral_velocity = cases::read_f64();
+    cases::skip(9);
+    let noise = if kind == 2 {
+        WheelNoise::DEFAULT
+    } else {
+        WheelNoise {
+            wheel_rate,
+            lateral_velocity,
+        }
+    };
+    Settings {
+        drive: DifferentialDrive {
+            wheel_radius,
+            track_width,
+            ticks_per_revolution,
+        },
+        noise,
+    }
+}
+
+fn read_measurement(kind: u64) -> WheelMeasurement {
+    let valid = cases::is_word(1);
+    let timestamp = cases::read_f64();
+    let left = cases::read_word();
+    let right = cases::read_word();
+    cases::skip(11);
+    let reading = if (kind == 3) | (kind == 10) {
+        Reading::Ticks(number::tick::of_bits(left), number::tick::of_bits(right))
+    } else {
+        Reading::AngularVelocity(words::of_bits(left), words::of_bits(right))
+    };
+    WheelMeasurement {
+        timestamp,
+        reading,
+        valid,
+    }
+}
+
+fn read_motion() -> PlanarMotion {
+    let delta = cases::read_three();
+    let covariance = cases::read_nine();
+    cases::skip(3);
+    PlanarMotion { delta, covariance }
 }
 
 // ---- text
 
-fn print_outcome(answer: Answer, accepted: &[u8]) {
-    let outcome = answer.outcome;
+fn print_given() {
+    cases::write(b"given");
+}
+
+fn print_outcome(outcome: Outcome, accepted: &[u8]) {
     match outcome {
-        Outcome::Accepted => write(accepted),
+        Outcome::Accepted => cases::write(accepted),
         Outcome::Refused(why) => print_refusal(why),
     }
 }
 
 // The number of a refusal, and what it carries.
 fn print_refusal(why: Refusal) {
+    cases::print_refused(why.number());
     match why {
-        Refusal::Invalid => write(b"refused 1"),
-        Refusal::NonFinite => write(b"refused 2"),
         Refusal::OutOfOrder(time, last) => {
-            write(b"refused 3");
-            print_f64(time);
-            print_f64(last);
+            cases::print_f64(time);
+            cases::print_f64(last);
         }
-        Refusal::Duplicate(time) => {
-            write(b"refused 4");
-            print_f64(time);
-        }
-        Refusal::MixedReadings => write(b"refused 5"),
-        Refusal::InvalidNoise => write(b"refused 6"),
-        Refusal::InvalidKinematics => write(b"refused 7"),
-        Refusal::AngleRange => write(b"refused 8"),
+        Refusal::Duplicate(time) => cases::print_f64(time),
+        _ => (),
     }
 }
 
-fn print_parameters(state: WheelPreintegration) {
-    let drive = state.drive;
-    let noise = state.noise;
-    write(b" drive");
-    print_three(
-        drive.wheel_radius,
-        drive.track_width,
-        drive.ticks_per_revolution,
-    );
-    write(b" noise");
-    print_f64(noise.wheel_rate);
-    print_f64(noise.lateral_velocity);
+// The drive and the noise are written where they may have changed.
+fn print_state(kind: u64, state: WheelPreintegration) {
+    let settings = state.settings;
+    let last = state.last;
+    if (kind < 3) | (kind == 6) {
+        print_settings(settings);
+    }
+    cases::write(b" dt");
+    cases::print_f64(state.dt());
+    print_motion(state.motion());
+    print_last(last);
 }
 
-// The state, once the rest of its line is written.
-fn shown(state: WheelPreintegration) -> WheelPreintegration {
-    write(b" dt");
-    print_f64(state.dt());
-    print_motion(state.motion());
-    print_last(state.last());
-    write(b"\n");
-    state
+fn print_settings(settings: Settings) {
+    let drive = settings.drive;
+    let noise = settings.noise;
+    cases::write(b" drive");
+    cases::print_f64(drive.wheel_radius);
+    cases::print_f64(drive.track_width);
+    cases::print_f64(drive.ticks_per_revolution);
+    cases::write(b" noise");
+    cases::print_f64(noise.wheel_rate);
+    cases::print_f64(noise.lateral_velocity);
 }
 
 fn print_motion(motion: PlanarMotion) {
-    let d = motion.delta;
-    let c = motion.covariance;
-    write(b" motion");
-    print_three(d[0], d[1], d[2]);
-    write(b" covariance");
-    print_three(c[0], c[1], c[2]);
-    print_three(c[3], c[4], c[5]);
-    print_three(c[6], c[7], c[8]);
+    let delta = motion.delta;
+    let covariance = motion.covariance;
+    cases::write(b" motion");
+    cases::print_three(delta);
+    cases::write(b" covariance");
+    cases::print_nine(covariance);
 }
 
 fn print_last(last: Last) {
-    write(b" last");
+    cases::write(b" last");
     match last {
-        Last::Nothing => write(b" none"),
-        Last::At(m) => print_reading(m),
+        Last::Nothing => cases::write(b" none"),
+        Last::At(m) => print_measurement(m),
     }
 }
 
-fn print_reading(m: WheelMeasurement) {
+fn print_measurement(m: WheelMeasurement) {
     let reading = m.reading;
     if !m.valid {
-        write(b" invalid");
+        cases::write(b" invalid");
     }
     match reading {
         Reading::Ticks(left, right) => {
-            write(b" ticks");
-            print_f64(m.timestamp);
-            print_i64(left);
-            print_i64(right);
+            cases::write(b" ticks");
+            cases::print_f64(m.timestamp);
+            cases::print_bits(number::tick::bits_of(left));
+            cases::print_bits(number::tick::bits_of(right));
         }
         Reading::AngularVelocity(left, right) => {
-            write(b" rates");
-            print_three(m.timestamp, left, right);
+            cases::write(b" rates");
+            cases::print_three([m.timestamp, left, right]);
         }
     }
 }
 
 fn print_twist(v: BodyTwist) {
-    print_three(v.vx, v.vy, v.wz);
-}
-
-fn print_three(x: f64, y: f64, z: f64) {
-    print_f64(x);
-    print_f64(y);
-    print_f64(z);
-}
-
-fn print_f64(x: f64) {
-    print_word(words::to_bits(x));
-}
-
-fn print_i64(n: i64) {
-    print_word(number::tick::bits_of(n));
-}
-
-// A space, and the bits in hexadecimal.
-fn print_word(bits: u64) {
-    write(b" ");
-    io::print_hex(STDOUT_FILENO, bits, 16);
-}
-
-fn write(text: &[u8]) {
-    io::write_all(STDOUT_FILENO, text);
+    cases::write(b"gives");
+    cases::print_three([v.vx, v.vy, v.wz]);
 }

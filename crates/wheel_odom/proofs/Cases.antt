@@ -5,15 +5,15 @@ use lib.Dec.{eqb}
 use lib.Ieee.{Float}
 use Rattle.number.specs.Float.{_when_else_}
 use Rattle.number.specs.Said.{Said, gives, refused, Told}
-use Rattle.wheel_odom.specs.declared.factor.ComposedFactor.{ComposedFactor}
-use Rattle.wheel_odom.specs.declared.factor.WheelOdomFactor.{WheelOdomFactor}
-use Rattle.wheel_odom.specs.declared.information.Information.{Information}
-use Rattle.wheel_odom.specs.declared.information.Information.the-variants as I
-use Rattle.wheel_odom.specs.declared.information.Informed.{Informed}
-use Rattle.wheel_odom.specs.declared.measurement.ComposedMeasurement.{ComposedMeasurement}
-use Rattle.wheel_odom.specs.declared.measurement.Outcome.{Outcome}
-use Rattle.wheel_odom.specs.declared.measurement.Outcome.the-variants as O
-use Rattle.wheel_odom.specs.declared.measurement.WheelOdomMeasurement.{WheelOdomMeasurement}
+use Rattle.wheel_odom.specs.declared.ComposedFactor.{ComposedFactor}
+use Rattle.wheel_odom.specs.declared.WheelOdomFactor.{WheelOdomFactor}
+use Rattle.wheel_odom.specs.declared.Information.{Information}
+use Rattle.wheel_odom.specs.declared.Information.the-variants as I
+use Rattle.wheel_odom.specs.declared.Informed.{Informed}
+use Rattle.wheel_odom.specs.declared.ComposedMeasurement.{ComposedMeasurement}
+use Rattle.wheel_odom.specs.declared.Outcome.{Outcome}
+use Rattle.wheel_odom.specs.declared.Outcome.the-variants as O
+use Rattle.wheel_odom.specs.declared.WheelOdomMeasurement.{WheelOdomMeasurement}
 use Rattle.wheel_odom.specs.Measurement.{saidOutcome, toldMeasurement}
 use Rattle.wheel_odom.specs.Information.{saidInformation, toldInformed}
 use Rattle.wheel_odom.specs.Factor.{toldFactor}

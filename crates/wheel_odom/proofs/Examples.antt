@@ -8,16 +8,18 @@ use Rattle.number.specs.Constants.{one, c3, c2^-5}
 use Rattle.number.specs.Constants.{zero as +0}
 use Rattle.number.specs.Fit.{finitePositive}
 use Rattle.number.specs.Float.{−_, _=ᶠ_, size}
-use Rattle.number.specs.Root.{sqrtOf, rootOf, grains}
+use Rattle.root.specs.Root.{sqrtOf, rootOf, grains}
 use Rattle.number.specs.Said.{gives, refusal}
-use Rattle.number.specs.Turn.{aboveFour, turnOf, shortKernel}
-use Rattle.mat3.specs.Matrix.{diagonal, threeFinite}
+use Rattle.sincos.specs.Turn.{aboveFour, turnOf, shortKernel}
+use Rattle.mat3.specs.Matrix.{diagonal}
+use Rattle.vec3.specs.Vector.{threeFinite}
 use Rattle.mat3.proofs.Laws.{Symmetric}
 use Rattle.planar.specs.Compose.{turnMatrix}
 use Rattle.planar.specs.Motion.{finiteMotion}
-use Rattle.wheel_odom.specs.declared.measurement.WheelOdomMeasurement.{WheelOdomMeasurement}
+use Rattle.planar_information.specs.Block.{invertible, nearSymmetric, nearSymmetry, planarBlock, positiveDeterminant}
+use Rattle.wheel_odom.specs.declared.WheelOdomMeasurement.{WheelOdomMeasurement}
 use Rattle.wheel_odom.specs.Measurement.{motionOf, withDefaults}
-use Rattle.wheel_odom.specs.Information.{fitAsymmetry, fitDeterminant, fitMinors, fitSigmas, finiteInformation, hasInformation, informationMatrix, informationOf, nearSymmetric, planarBlock}
+use Rattle.wheel_odom.specs.Information.{hasInformation, informationMatrix, informationOf}
 use Rattle.wheel_odom.proofs.Laws.{at}
 
 -- 01, Examples to prove: "covariance diag(−1,−1,1) gives 9"
@@ -31,7 +33,7 @@ turned = withDefaults (+0 ∷ +0 ∷ c2^-5 ∷ []) (diagonal one c3 one)
 pub record Examples : Type 0 where
   pub indefinite-refused : informationOf indefinite .outcome ≡ refusal 9
   -- .. though its determinant is above zero
-  pub indefinite-determinant : fitDeterminant (indefinite .covariance) ≡ true
+  pub indefinite-determinant : positiveDeterminant (indefinite .covariance) ≡ true
   pub turned-symmetric : Symmetric (turned .covariance)
   pub turned-given : informationOf turned .outcome ≡ gives tt
   -- x and y in one order and in the other: one unit apart in the last place
@@ -40,7 +42,7 @@ pub record Examples : Type 0 where
   pub turned-apart : (at (informationOf turned .value) 0 1 =ᶠ at (informationOf turned .value) 1 0) ≡ false
 
 pub examples : Examples
-unfolding informationOf hasInformation fitSigmas fitAsymmetry nearSymmetric fitMinors fitDeterminant finiteInformation informationMatrix planarBlock motionOf finiteMotion turnMatrix turnOf shortKernel aboveFour threeFinite finitePositive size sqrtOf rootOf grains Ieee.ofBits Ieee.add Ieee.sub Ieee.mul Ieee.div Ieee.neg Ieee.lt Ieee.le Ieee.eq
+unfolding informationOf hasInformation invertible nearSymmetry nearSymmetric informationMatrix planarBlock motionOf finiteMotion turnMatrix turnOf shortKernel aboveFour threeFinite finitePositive size sqrtOf rootOf grains Ieee.ofBits Ieee.add Ieee.sub Ieee.mul Ieee.div Ieee.neg Ieee.lt Ieee.le Ieee.eq
 examples = record {
   indefinite-refused = refl;
   indefinite-determinant = refl;

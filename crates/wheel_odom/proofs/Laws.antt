@@ -11,18 +11,22 @@ use lib.ListN.{getD}
 use lib.Ieee.{Float, nan, binary64}
 use lib.Ieee.Fits.{mul-fits}
 use Rattle.number.specs.Float.{finite, _=ᶠ_, _when_else_}
+use Rattle.number.specs.Fit.{inverseSquare}
 use Rattle.number.specs.Said.{Said, gives, refused, accepts, refuses, Told}
-use Rattle.number.specs.Turn.{aboveFour}
-use Rattle.mat3.specs.Matrix.{inverse, finiteMatrix}
-use Rattle.mat3.proofs.Laws.{Symmetric, inverse-symmetric}
+use Rattle.sincos.specs.Turn.{aboveFour}
+use Rattle.mat3.specs.Matrix.{finiteMatrix}
+use Rattle.inverse3.specs.Inverse.{inverse}
+use Rattle.mat3.proofs.Laws.{Symmetric}
+use Rattle.inverse3.proofs.Laws.{inverse-symmetric}
 use Rattle.planar.specs.Compose.{turnMatrix}
 use Rattle.planar.specs.Motion.{heading}
-use Rattle.wheel_odom.specs.declared.factor.WheelOdomFactor.{WheelOdomFactor}
-use Rattle.wheel_odom.specs.declared.measurement.WheelOdomMeasurement.{WheelOdomMeasurement}
+use Rattle.planar_information.specs.Block.{planarBlock}
+use Rattle.wheel_odom.specs.declared.WheelOdomFactor.{WheelOdomFactor}
+use Rattle.wheel_odom.specs.declared.WheelOdomMeasurement.{WheelOdomMeasurement}
 use Rattle.wheel_odom.specs.Measurement.{composeOf, motionOf}
-use Rattle.wheel_odom.specs.Information.{finiteInformation, hasInformation, informationMatrix, informationOf, inverseSquare, planarBlock, zeros36}
-use Rattle.wheel_odom.specs.Factor.{byMeasurement, composeFactorOf, fitFactor}
-use Rattle.wheel_odom.proofs.information.Corner.{both, heading-across}
+use Rattle.wheel_odom.specs.Information.{finiteInformation, hasInformation, informationMatrix, informationOf, zeros36}
+use Rattle.wheel_odom.specs.Factor.{byMeasurement, composeFactorOf, validFactor}
+use Rattle.planar_information.proofs.Corner.{both, heading-across}
 use Rattle.wheel_odom.proofs.factor.Joined.{apart, as-measured}
 
 never : (n : ℕ) (values : List Float) → _≡_ {A = Said (Unit {0})} (refused n values) (gives tt) → ⊥
@@ -31,11 +35,11 @@ never n values e = let z : _≡_ {A = ℕ} 0 1 = cc in omega arith
 -- ---- a factor that may enter a solve
 
 -- 01: "`is_valid` .. is false wherever `information` refuses"
-pub refused-not-valid : (f : WheelOdomFactor) (n : ℕ) (values : List Float) → informationOf (f .measurement) .outcome ≡ refused n values → fitFactor f ≡ false
-unfolding fitFactor
+pub refused-not-valid : (f : WheelOdomFactor) (n : ℕ) (values : List Float) → informationOf (f .measurement) .outcome ≡ refused n values → validFactor f ≡ false
+unfolding validFactor
 refused-not-valid f n values r = simp (r, and-false)
 
-pub valid-has-information : (f : WheelOdomFactor) → fitFactor f ≡ true → informationOf (f .measurement) .outcome ≡ gives tt
+pub valid-has-information : (f : WheelOdomFactor) → validFactor f ≡ true → informationOf (f .measurement) .outcome ≡ gives tt
 valid-has-information f e = go (informationOf (f .measurement) .outcome) refl
   where
     go : (s : Said (Unit {0})) → informationOf (f .measurement) .outcome ≡ s → s ≡ gives tt
@@ -94,12 +98,11 @@ accepted m = go (hasInformation m) (aboveFour (heading (motionOf m))) (finiteInf
     go true false false e = absurd (never _ _ e)
     go false wide finite e = absurd (never _ _ e)
 
-finite-block : (m : WheelOdomMeasurement) → finiteInformation m ≡ true → finiteMatrix (planarBlock m) ≡ true
-unfolding finiteInformation
-finite-block m e = both (finiteMatrix (planarBlock m)) (finite (inverseSquare (m .«z_sigma»))) (both (finiteMatrix (planarBlock m) && finite (inverseSquare (m .«z_sigma»))) (finite (inverseSquare (m .«tilt_sigma»))) e .0) .0
+finite-block : (m : WheelOdomMeasurement) → finiteInformation m ≡ true → finiteMatrix (planarBlock (motionOf m)) ≡ true
+finite-block m e = both (finiteMatrix (planarBlock (motionOf m))) (finite (inverseSquare (m .«z_sigma»))) (both (finiteMatrix (planarBlock (motionOf m)) && finite (inverseSquare (m .«z_sigma»))) (finite (inverseSquare (m .«tilt_sigma»))) e .0) .0
 
 pub information-symmetric : (m : WheelOdomMeasurement) → Symmetric (m .covariance) → informationOf m .outcome ≡ gives tt → SymmetricButXY (informationOf m .value)
-unfolding informationMatrix planarBlock turnMatrix
+unfolding informationMatrix planarBlock turnMatrix motionOf
 information-symmetric m s e =
     let a = accepted m e in
     let across = heading-across _ _ (inverse (m .covariance)) (inverse-symmetric (m .covariance) s) (mul-fits binary64 _ _) (mul-fits binary64 _ _) (finite-block m (a .0)) in

@@ -6,22 +6,23 @@ use lib.Dec.{eqb}
 use Rattle.number.specs.Float.{_when_else_}
 use Rattle.number.specs.Constants.{zero as +0}
 use Rattle.number.specs.Said.{Said, gives, refused, Told, accepts, refuses, refusesWith}
-use Rattle.mat3.specs.Matrix.{zeros, finiteVector, finiteMatrix}
-use Rattle.robust.specs.Huber.{fitHuber, joinedOf}
+use Rattle.mat3.specs.Matrix.{zeros, finiteMatrix}
+use Rattle.vec3.specs.Vector.{finiteVector}
+use Rattle.robust.specs.Huber.{validHuber, joinedOf}
 use Rattle.robust.specs.declared.Huber.{Huber}
 use Rattle.robust.specs.declared.Huber.the-variants.{Absent}
-use Rattle.wheel_odom.specs.declared.factor.Extrinsic.{Extrinsic}
-use Rattle.wheel_odom.specs.declared.factor.WheelOdomFactor.{WheelOdomFactor}
-use Rattle.wheel_odom.specs.declared.factor.ComposedFactor.{ComposedFactor}
-use Rattle.wheel_odom.specs.declared.measurement.Outcome.{Outcome}
-use Rattle.wheel_odom.specs.declared.measurement.WheelOdomMeasurement.{WheelOdomMeasurement}
+use Rattle.wheel_odom.specs.declared.Extrinsic.{Extrinsic}
+use Rattle.wheel_odom.specs.declared.WheelOdomFactor.{WheelOdomFactor}
+use Rattle.wheel_odom.specs.declared.ComposedFactor.{ComposedFactor}
+use Rattle.wheel_odom.specs.declared.Outcome.{Outcome}
+use Rattle.wheel_odom.specs.declared.WheelOdomMeasurement.{WheelOdomMeasurement}
 use Rattle.wheel_odom.specs.Measurement.{blank, composeOf, saidOutcome}
 use Rattle.wheel_odom.specs.Information.{informationOf}
 
 abbrev pub factorOf : ℕ → ℕ → WheelOdomMeasurement → Extrinsic → Extrinsic → Huber → WheelOdomFactor
 factorOf from to m first last huber = record { «from_idx» = from; «to_idx» = to; measurement = m; «t_cb_from» = first; «t_cb_to» = last; «huber_chi2» = huber }
 
-unfoldable pub finiteExtrinsic : Extrinsic → Bool
+abbrev pub finiteExtrinsic : Extrinsic → Bool
 finiteExtrinsic t = finiteMatrix (t .rotation) && finiteVector (t .translation)
 
 abbrev pub isGiven : {A : Type 0} → Said A → Bool
@@ -30,10 +31,10 @@ isGiven (refused n values) = false
 
 -- "it links two distinct keyframes, the measurement has an information matrix, both extrinsics are finite and the Huber threshold, if any, is finite
 -- and positive", and 01: "false wherever `information` refuses"
-unfoldable pub fitFactor : WheelOdomFactor → Bool
-fitFactor f =
+unfoldable pub validFactor : WheelOdomFactor → Bool
+validFactor f =
     not (eqb (f .«from_idx») (f .«to_idx»))
-    && fitHuber (f .«huber_chi2»)
+    && validHuber (f .«huber_chi2»)
     && finiteExtrinsic (f .«t_cb_from»)
     && finiteExtrinsic (f .«t_cb_to»)
     && isGiven (informationOf (f .measurement) .outcome)

@@ -5,16 +5,17 @@ use lib.Ieee.{Float}
 use Rattle.number.specs.Float.{_⊕_, _⊗_, _when_else_, finite}
 use Rattle.number.specs.Constants.{c0·01}
 use Rattle.number.specs.Constants.{zero as +0}
-use Rattle.number.specs.Root.{sqrtOf}
-use Rattle.number.specs.Said.{Said, gives, refusal, Told, accepts, refuses, orNan}
-use Rattle.number.specs.Turn.{aboveFour}
-use Rattle.planar.specs.declared.motion.PlanarMotion.{PlanarMotion}
+use Rattle.root.specs.Root.{sqrtOf}
+use Rattle.number.specs.Said.{Said, gives, refusal, Told, accepts, refuses}
+use Rattle.root.specs.Root.{orNan}
+use Rattle.sincos.specs.Turn.{aboveFour}
+use Rattle.planar.specs.declared.PlanarMotion.{PlanarMotion}
 use Rattle.planar.specs.Motion.{heading, identity, finiteMotion}
 use Rattle.planar.specs.Compose.{composed}
-use Rattle.wheel_odom.specs.declared.measurement.WheelOdomMeasurement.{WheelOdomMeasurement}
-use Rattle.wheel_odom.specs.declared.measurement.ComposedMeasurement.{ComposedMeasurement}
-use Rattle.wheel_odom.specs.declared.measurement.Outcome.{Outcome}
-use Rattle.wheel_odom.specs.declared.measurement.Outcome.the-variants as O
+use Rattle.wheel_odom.specs.declared.WheelOdomMeasurement.{WheelOdomMeasurement}
+use Rattle.wheel_odom.specs.declared.ComposedMeasurement.{ComposedMeasurement}
+use Rattle.wheel_odom.specs.declared.Outcome.{Outcome}
+use Rattle.wheel_odom.specs.declared.Outcome.the-variants as O
 
 -- "Default sigmas of the type are 0.01 and 0.01."
 abbrev pub withDefaults : List Float → List Float → WheelOdomMeasurement
@@ -37,7 +38,7 @@ blank = withSigmas (ofMotion identity) +0 +0
 -- ---- composing
 
 -- "Composed sigmas are the root of a·a+b·b." A root that is refused is no number, and the result's 2 counts it.
-unfoldable pub joinedSigma : Float → Float → Float
+abbrev pub joinedSigma : Float → Float → Float
 joinedSigma a b = orNan (sqrtOf (a ⊗ a ⊕ b ⊗ b))
 
 unfoldable pub composedMeasurement : WheelOdomMeasurement → WheelOdomMeasurement → WheelOdomMeasurement

@@ -1,33 +1,15 @@
 // A wheel-odometry constraint between two keyframes.
 ghost use mathlib.Core.Path.{_≡_};
-ghost use Rattle.wheel_odom.specs.Factor.{composeFactorOf, factorOf, finiteExtrinsic, fitFactor, isGiven, refusedFactor, toldFactor};
+ghost use Rattle.wheel_odom.specs.Factor.{composeFactorOf, factorOf, finiteExtrinsic, validFactor, isGiven, refusedFactor, toldFactor};
 ghost use Rattle.wheel_odom.specs.Information.{saidInformation};
 ghost use Rattle.wheel_odom.specs.Measurement.{saidOutcome};
-use crate::information::Information;
-use crate::measurement::Outcome;
-use crate::measurement::WheelOdomMeasurement;
+use crate::ComposedFactor;
+use crate::Extrinsic;
+use crate::Information;
+use crate::Outcome;
+use crate::WheelOdomFactor;
+use crate::WheelOdomMeasurement;
 use robust::Huber;
-
-// Base-to-camera transform: X_cam = rotation · X_base + translation.
-pub struct Extrinsic {
-    pub rotation: [f64; 9],
-    pub translation: [f64; 3],
-}
-
-pub struct WheelOdomFactor {
-    pub from_idx: usize,
-    pub to_idx: usize,
-    pub measurement: WheelOdomMeasurement,
-    pub t_cb_from: Extrinsic,
-    pub t_cb_to: Extrinsic,
-    // Threshold on the six-dimensional chi².
-    pub huber_chi2: Huber,
-}
-
-pub struct ComposedFactor {
-    pub outcome: Outcome,
-    pub factor: WheelOdomFactor,
-}
 
 impl Extrinsic {
     const BLANK: Extrinsic = Extrinsic {
@@ -40,7 +22,7 @@ impl Extrinsic {
     {
         let rotation = self.rotation;
         let translation = self.translation;
-        mat3::is_finite(rotation) & mat3::is_finite_vector(translation)
+        mat3::is_finite(rotation) & vec3::is_finite_vector(translation)
     }
 }
 
@@ -76,7 +58,7 @@ impl WheelOdomFactor {
 
     // Whether the factor can enter a solve.
     pub fn is_valid(self) -> bool
-        ensures { λ r. ⌜ r ≡ fitFactor self ⌝ }
+        ensures { λ r. ⌜ r ≡ validFactor self ⌝ }
     {
         let huber = self.huber_chi2;
         let from = self.t_cb_from;

@@ -1,27 +1,10 @@
 // Wheel-odometry motion of the base between two keyframes, lifted out of the plane by two stiff sigmas.
 ghost use mathlib.Core.Path.{_≡_};
 ghost use Rattle.wheel_odom.specs.Measurement.{composeOf, composedMeasurement, finiteMeasurement, joinedSigma, motionOf, ofMotion, refusedMeasurement, toldMeasurement, withDefaults, withSigmas};
+use crate::ComposedMeasurement;
+use crate::Outcome;
+use crate::WheelOdomMeasurement;
 use planar::PlanarMotion;
-
-// (dx, dy, dθ) and its covariance, column by column; out-of-plane translation sigma in metres, roll and pitch sigma in radians.
-pub struct WheelOdomMeasurement {
-    pub delta: [f64; 3],
-    pub covariance: [f64; 9],
-    pub z_sigma: f64,
-    pub tilt_sigma: f64,
-}
-
-pub enum Outcome {
-    Accepted,
-    NonFinite,
-    AngleRange,
-    NotJoined,
-}
-
-pub struct ComposedMeasurement {
-    pub outcome: Outcome,
-    pub measurement: WheelOdomMeasurement,
-}
 
 impl WheelOdomMeasurement {
     // 1 cm and 0.01 rad: unmeasured, to be tuned on the cart.
@@ -88,7 +71,7 @@ impl WheelOdomMeasurement {
         }
         let d = a.delta;
         let e = b.delta;
-        if number::is_above_four(d[2]) | number::is_above_four(e[2]) {
+        if sincos::is_above_four(d[2]) | sincos::is_above_four(e[2]) {
             return refused(Outcome::AngleRange);
         }
         let measurement = self.composed(next);
@@ -133,5 +116,5 @@ fn refused(outcome: Outcome) -> ComposedMeasurement
 fn joined_sigma(a: f64, b: f64) -> f64
     ensures { λ r. ⌜ r ≡ joinedSigma a b ⌝ }
 {
-    number::root_or_nan(a * a + b * b)
+    root::root_or_nan(a * a + b * b)
 }

@@ -1,4 +1,5 @@
-//! The fixed lists of the gate's program rust_cases: some hundreds of cases with the Rust's answers inside, and the lines in which all agree.
+//! The fixed lists of the gate's programs rust_wheel_cases and rust_imu_cases: some hundreds of cases with the Rust's answers inside, and the lines in
+//! which all agree.
 use crate::factors::{has_clear_determinant, measurement, put_limit, put_measurement, put_still, split, still};
 use crate::inertial::{self, Sizes as Reached, Style, World};
 use crate::ours::Records;
@@ -9,13 +10,25 @@ use kornia_sensors::imu::{ImuBias, ImuMeasurement, PreintegratedImu};
 use kornia_sensors::wheel::{PlanarMotion, WheelKinematics};
 use std::path::Path;
 
-/// How many samples a batch and a window of rust_cases have.
+/// How many samples a batch and a window of rust_imu_cases have.
 const SAMPLES: u64 = 20;
+
+/// The programs, each with the kinds of its own domain: up to 5 the wheel's and the planar ones, from 6 on the still and the inertial ones.
+const PROGRAMS: [&str; 2] = ["rust_wheel_cases", "rust_imu_cases"];
+
+/// What a program is given, and what it has to write.
+#[derive(Default)]
+struct List {
+    input: Vec<u8>,
+    lines: String,
+}
 
 #[derive(Default)]
 struct Sample {
+    /// The case at hand, and whose it is.
     records: Records,
-    lines: String,
+    program: usize,
+    lists: [List; 2],
     number: u64,
 }
 
@@ -43,16 +56,28 @@ pub fn write(folder: &Path) -> std::io::Result<()> {
         sample.batch(&mut random, &style);
         sample.window(&mut random);
     }
-    std::fs::write(folder.join("stdin"), &sample.records.0)?;
-    std::fs::write(folder.join("stdout"), &sample.lines)
+    sample.close();
+    for (program, list) in PROGRAMS.iter().zip(&sample.lists) {
+        std::fs::write(folder.join(program).join("stdin"), &list.input)?;
+        std::fs::write(folder.join(program).join("stdout"), &list.lines)?;
+    }
+    Ok(())
 }
 
 impl Sample {
     fn begin(&mut self, kind: u64, name: &str) {
+        self.close();
+        self.program = usize::from(kind > 5);
         self.number += 1;
         self.records.word(kind);
         self.records.word(self.number);
-        self.lines += &format!("{name} {} agrees\n", self.number);
+        self.lists[self.program].lines += &format!("{name} {} agrees\n", self.number);
+    }
+
+    /// Hands the case at hand to its program.
+    fn close(&mut self) {
+        let case = std::mem::take(&mut self.records);
+        self.lists[self.program].input.extend(case.0);
     }
 
     /// Numbers behind their tolerance.

@@ -4,11 +4,14 @@ use mathlib.Core.List.{List}
 use lib.Ieee.{Float}
 use Rattle.number.specs.Float.{_⊕_}
 use Rattle.mat3.specs.Matrix.{product, transform}
-use Rattle.imu.specs.declared.state.PreintegratedImu.{PreintegratedImu}
-use Rattle.imu.specs.declared.rotation.Increment.{Increment}
-use Rattle.imu.specs.Rotation.{hatOf}
+use Rattle.imu.specs.declared.PreintegratedImu.{PreintegratedImu}
+use Rattle.rotation.specs.declared.Increment.{Increment}
+use Rattle.rotation.specs.Rotation.{hatOf}
 use Rattle.imu.specs.State.{walked}
-use Rattle.imu.specs.Step.{advancedBy, covarianceAfter, positionAfter, positionByAccel, positionByGyro, rotationAfter, rotationByGyro, velocityAfter, velocityByAccel, velocityByGyro}
+use Rattle.imu_step.specs.Lean.{leanCovarianceAfter}
+use Rattle.imu_step.specs.Parts.{positionAfter, positionByAccel, positionByGyro, rotationAfter, rotationByGyro, velocityAfter, velocityByAccel, velocityByGyro}
+use Rattle.imu.specs.Lean.{leanAdvancedBy}
+use Rattle.imu.specs.Step.{advancedWith}
 
 pub of-parts :
     (s : PreintegratedImu) (d : Increment) (a : List Float) (dt : Float) {H G u R′ v′ p′ C′ B′ rg vg va pg pa : List Float}
@@ -18,7 +21,7 @@ pub of-parts :
     → R′ ≡ rotationAfter (s .«delta_rotation») d
     → v′ ≡ velocityAfter (s .«delta_velocity») u dt
     → p′ ≡ positionAfter (s .«delta_position») (s .«delta_velocity») u dt
-    → C′ ≡ covarianceAfter (s .covariance) (s .calib) (s .«delta_rotation») d G dt
+    → C′ ≡ leanCovarianceAfter (s .covariance) (s .calib) (s .«delta_rotation») d G dt
     → B′ ≡ walked s dt
     → rg ≡ rotationByGyro (s .«d_rotation_d_bias_gyro») d dt
     → vg ≡ velocityByGyro (s .«d_velocity_d_bias_gyro») (s .«d_rotation_d_bias_gyro») G dt
@@ -39,6 +42,6 @@ pub of-parts :
       «d_velocity_d_bias_accel» = va;
       «d_position_d_bias_gyro» = pg;
       «d_position_d_bias_accel» = pa;
-    }) (advancedBy s d a dt)
-unfolding advancedBy
+    }) (leanAdvancedBy s d a dt)
+unfolding leanAdvancedBy advancedWith
 of-parts s d a dt eH eG eu eR eV eP eC eB erg evg eva epg epa = rw (eR, eV, eP, eC, eB, erg, evg, eva, epg, epa, eG, eu, eH)

@@ -6,22 +6,31 @@ use Rattle.imu_cases.proofs.print_places.Statement.{statement}
 use Rattle.imu_cases.proofs.print_places.Tie as tie
 
 abbrev Inv-loop : tie.InvT-loop
-Inv-loop order i₀ i = Unit {0}
+Inv-loop order i₀ t4 i = Unit {0}
 
 abbrev μ-loop : tie.MeasureT-loop
-μ-loop order i₀ i = length order - i
+μ-loop order i₀ t4 i = length order - i
+
+slice-aggregate-write : tie.Need-slice-aggregate-write Inv-loop μ-loop
+slice-aggregate-write c = omega arith
+
+write-requires : tie.Need-write-requires Inv-loop μ-loop
+write-requires c κs = tt
 
 loop-holds : tie.Need-loop-holds Inv-loop μ-loop
 loop-holds c = tt
 
-mul-print-place : tie.Need-mul-print-place Inv-loop μ-loop
-mul-print-place c = omega arith
+slice-aggregate-print-count : tie.Need-slice-aggregate-print-count Inv-loop μ-loop
+slice-aggregate-print-count c = omega arith
 
-shared-slice-read-print-place : tie.Need-shared-slice-read-print-place Inv-loop μ-loop
-shared-slice-read-print-place c = omega arith
+mul-print-count : tie.Need-mul-print-count Inv-loop μ-loop
+mul-print-count c = omega arith
 
-print-place-requires : tie.Need-print-place-requires Inv-loop μ-loop
-print-place-requires c κs = tt
+shared-slice-read-print-count : tie.Need-shared-slice-read-print-count Inv-loop μ-loop
+shared-slice-read-print-count c = omega arith
+
+print-count-requires : tie.Need-print-count-requires Inv-loop μ-loop
+print-count-requires c κs = tt
 
 add-i : tie.Need-add-i Inv-loop μ-loop
 add-i c = omega arith
@@ -41,10 +50,13 @@ print-places-spec =
     (tie.spec
     Inv-loop
     μ-loop
+    slice-aggregate-write
+    write-requires
     loop-holds
-    mul-print-place
-    shared-slice-read-print-place
-    print-place-requires
+    slice-aggregate-print-count
+    mul-print-count
+    shared-slice-read-print-count
+    print-count-requires
     add-i
     loop-less
     loop-again

@@ -3,17 +3,17 @@ use mathlib.Core.Path.{_≡_, refl, ap, _∙_}
 use lib.Ieee as Ieee
 use Rattle.number.specs.Fit.{finiteNotNegative}
 use Rattle.number.specs.Said.{Told, accepts}
-use Rattle.mat3.specs.Matrix.{threeFinite}
-use Rattle.imu.specs.declared.state.PreintegratedImu.{PreintegratedImu}
-use Rattle.imu.specs.Batch.{Batched, batchOf}
-use Rattle.imu.specs.State.{finiteBias, fitCalib, makeOf}
+use Rattle.vec3.specs.Vector.{threeFinite}
+use Rattle.imu.specs.declared.PreintegratedImu.{PreintegratedImu}
+use Rattle.imu.specs.State.{finiteBias, validCalib, makeOf}
+use Rattle.imu_window.specs.Batch.{Batched, batchOf}
 use Rattle.latchfern.specs.Exported.{board}
 use borrow.Author.Needs.{needs}
 use Rattle.latchfern.proofs.latchfern_inertial_batch.Statement.{statement}
 use Rattle.latchfern.proofs.latchfern_inertial_batch.Tie as tie
 
 taken : makeOf (board .bias) (board .calib) ≡ accepts board
-unfolding makeOf fitCalib finiteBias threeFinite finiteNotNegative Ieee.ofBits Ieee.le
+unfolding makeOf validCalib finiteBias threeFinite finiteNotNegative Ieee.ofBits Ieee.le
 taken = refl
 
 new-requires : tie.Need-new-requires

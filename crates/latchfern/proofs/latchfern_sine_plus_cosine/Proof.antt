@@ -1,16 +1,16 @@
 -- Both parts come from the one evaluation. Assumes nothing.
 use mathlib.Core.Path.{ap}
 use Rattle.number.specs.Float.{_⊕_}
-use Rattle.number.specs.declared.turn.SinCos.{SinCos}
+use Rattle.sincos.specs.declared.SinCos.{SinCos}
 use borrow.Author.Needs.{needs}
 use Rattle.latchfern.proofs.latchfern_sine_plus_cosine.Statement.{statement}
 use Rattle.latchfern.proofs.latchfern_sine_plus_cosine.Tie as tie
 
-evaluate-requires : tie.Need-evaluate-requires
-evaluate-requires c κs = search needs
+turn-of-requires : tie.Need-turn-of-requires
+turn-of-requires c κs = search needs
 
 returns : tie.Need-returns
-returns c = ap (λ (v : SinCos). v .sin ⊕ v .cos) (c .before .evaluate .ensures)
+returns c = ap (λ (v : SinCos). v .sin ⊕ v .cos) (c .before .turn-of .ensures)
 
 pub latchfern-sine-plus-cosine-spec : {M : Type 1} → statement M
-latchfern-sine-plus-cosine-spec = tie.close (tie.spec evaluate-requires returns)
+latchfern-sine-plus-cosine-spec = tie.close (tie.spec turn-of-requires returns)

@@ -1,30 +1,58 @@
--- `times_step_transposed` meets its contract: either product does, and where the first is taken m is finite. Assumes nothing.
-use mathlib.Core.Path.{sym, _∙_}
-use borrow.Author.Needs.{needs}
+-- `times_step_transposed` meets its contract. The invariant: the columns before c are filled. The measure is the number of columns left. Assumes nothing.
+use mathlib.Core.Path.{refl}
+use Prim.Native.Nat.{_-_}
+use native.Mathlib.Omega.{arith}
+use Rattle.mat9.specs.Matrix.{entry}
+use Rattle.mat9.proofs.Loops.{FilledTo, filled-to-none, filled-to-done}
+use Rattle.lean9.specs.Lean.{keptEntry, keptInStep, keptProduct, timesStepTransposed}
+use Rattle.lean9.proofs.Columns.{filled-to-column}
 use Rattle.lean9.proofs.times_step_transposed.Statement.{statement}
 use Rattle.lean9.proofs.times_step_transposed.Tie as tie
 
-all-finite-requires : tie.Need-all-finite-requires
-all-finite-requires c κs = search needs
+abbrev Inv-loop : tie.InvT-loop
+Inv-loop m a out₀ c₀ out c = FilledTo 9 (keptEntry 9 (λ i j. keptInStep j) (entry 9 m) (λ k j. entry 9 a j k)) out 0 c out
 
-finite-times-step-transposed-requires : tie.Need-finite-times-step-transposed-requires
-finite-times-step-transposed-requires c κs = (c .before .before .before .pre, sym (c .before .all-finite .ensures) ∙ c .if1 .taken)
+abbrev μ-loop : tie.MeasureT-loop
+μ-loop m a out₀ c₀ out c = 9 - c
 
-returns : tie.Need-returns
-returns c = search needs
+loop-holds : tie.Need-loop-holds Inv-loop μ-loop
+loop-holds c = filled-to-none refl
 
-mat9-mul-transposed-requires : tie.Need-mat9-mul-transposed-requires
-mat9-mul-transposed-requires c κs = search needs
+step-transposed-column-requires : tie.Need-step-transposed-column-requires Inv-loop μ-loop
+step-transposed-column-requires c κs = omega arith
 
-returns-2 : tie.Need-returns-2
-returns-2 c = search needs
+slice-aggregate-put-column : tie.Need-slice-aggregate-put-column Inv-loop μ-loop
+slice-aggregate-put-column c = omega arith
+
+put-column-requires : tie.Need-put-column-requires Inv-loop μ-loop
+put-column-requires c κs = omega arith
+
+add-c : tie.Need-add-c Inv-loop μ-loop
+add-c c = omega arith
+
+loop-less : tie.Need-loop-less Inv-loop μ-loop
+loop-less c = omega arith
+
+loop-again : tie.Need-loop-again Inv-loop μ-loop
+loop-again c =
+    let column = c .before .before .before in
+    filled-to-column (column .before .before .before .before .loop .inv) (omega arith) (column .step-transposed-column .ensures) (c .before .put-column .ensures)
+
+returns : tie.Need-returns Inv-loop μ-loop
+unfolding timesStepTransposed keptProduct
+returns c = filled-to-done (c .before .loop .inv) (omega arith)
 
 pub times-step-transposed-spec : {M : Type 1} → statement M
 times-step-transposed-spec =
     tie.close
     (tie.spec
-    all-finite-requires
-    finite-times-step-transposed-requires
-    returns
-    mat9-mul-transposed-requires
-    returns-2)
+    Inv-loop
+    μ-loop
+    loop-holds
+    step-transposed-column-requires
+    slice-aggregate-put-column
+    put-column-requires
+    add-c
+    loop-less
+    loop-again
+    returns)

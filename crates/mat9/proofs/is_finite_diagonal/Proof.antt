@@ -42,7 +42,7 @@ is-finite-requires-6 c κs = search needs
 
 returns : tie.Need-returns
 unfolding finiteDiagonal
-returns c = cc
+returns c = rw (c .is-finite6 .ensures, c .before .is-finite5 .ensures, c .before .before .is-finite4 .ensures, c .before .before .before .is-finite3 .ensures, c .before .before .before .before .is-finite2 .ensures, c .before .before .before .before .before .is-finite .ensures)
 
 pub is-finite-diagonal-spec : {M : Type 1} → statement M
 is-finite-diagonal-spec =

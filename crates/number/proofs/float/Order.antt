@@ -111,10 +111,3 @@ unfolding Ieee.lt
     let v : cross b c < cross c b = ltb-true (cross b c) (cross c b) (sym (<ᶠ-cross b c refl refl) ∙ l) in
     <ᶠ-cross a c refl refl
     ∙ lt-ltb (cross a c) (cross c a) (through (gain a) (loss a) (den a) (gain b) (loss b) (den b) (gain c) (loss c) (den c) (den-pos a) (den-pos c) u v)
-
-pub <ᶠ-asymmetric : (a b : Float) → (a <ᶠ b) ≡ true → (b <ᶠ a) ≡ false
-<ᶠ-asymmetric a b h = go (b <ᶠ a) refl
-  where
-    go : (p : Bool) → (b <ᶠ a) ≡ p → p ≡ false
-    go true k = sym (<ᶠ-transitive a b a h k) ∙ <ᶠ-irreflexive a
-    go false k = refl

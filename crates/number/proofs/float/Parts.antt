@@ -31,10 +31,6 @@ finite-negated nan = refl
 finite-negated (inf s) = refl
 finite-negated (fin s m e) = refl
 
-pub finite-difference : (a b : Float) → finite (a ⊖ b) ≡ true → (finite a ≡ true) × (finite b ≡ true)
-unfolding Ieee.sub
-finite-difference a b h = let parts = finite-sum a (− b) h in (parts .0, sym (finite-negated b) ∙ parts .1)
-
 pub finite-product : (a b : Float) → finite (a ⊗ b) ≡ true → (finite a ≡ true) × (finite b ≡ true)
 unfolding Ieee.mul
 finite-product nan b h = absurd (false≢true h)
@@ -59,10 +55,6 @@ unfolding Ieee.neg
 negated-twice nan = refl
 negated-twice (inf s) = ap inf (Bool·not-not s)
 negated-twice (fin s m e) = λ i. fin (Bool·not-not s i) m e
-
-pub sum-no-nan : (a b : Float) → finite a ≡ true → finite b ≡ true → isNan (a ⊕ b) ≡ false
-unfolding Ieee.sub
-sum-no-nan a b p q = rw negated-twice at (difference-no-nan a (− b) p (finite-negated b ∙ q))
 
 pub product-no-nan : (a b : Float) → finite a ≡ true → finite b ≡ true → isNan (a ⊗ b) ≡ false
 unfolding Ieee.mul

@@ -3,9 +3,9 @@ use mathlib.Core.Path.{_≡_, refl, sym, ap, _∙_}
 use mathlib.Core.Bool.{true, false, not, false≢true}
 use borrow.Author.Tests.{eq-eqb, ne-eqb}
 use Rattle.number.specs.Said.{Said, gives, refused, Told, accepts, refuses}
-use Rattle.wheel_odom.specs.declared.factor.WheelOdomFactor.{WheelOdomFactor}
-use Rattle.wheel_odom.specs.declared.measurement.ComposedMeasurement.{ComposedMeasurement}
-use Rattle.wheel_odom.specs.declared.measurement.WheelOdomMeasurement.{WheelOdomMeasurement}
+use Rattle.wheel_odom.specs.declared.WheelOdomFactor.{WheelOdomFactor}
+use Rattle.wheel_odom.specs.declared.ComposedMeasurement.{ComposedMeasurement}
+use Rattle.wheel_odom.specs.declared.WheelOdomMeasurement.{WheelOdomMeasurement}
 use Rattle.wheel_odom.specs.Measurement.{composeOf, saidOutcome, toldMeasurement}
 use Rattle.wheel_odom.specs.Factor.{blankFactor, byMeasurement, composeFactorOf, isGiven, joinedFactor, refusedFactor}
 

@@ -12,7 +12,7 @@ is-finite-vector-requires-2 c κs = search needs
 
 returns : tie.Need-returns
 unfolding finiteBias
-returns c = cc
+returns c = rw (c .is-finite-vector2 .ensures, c .before .is-finite-vector .ensures)
 
 pub is-finite-bias-spec : {M : Type 1} → statement M
 is-finite-bias-spec =

@@ -18,7 +18,7 @@ is-finite-requires-4 c κs = search needs
 
 returns : tie.Need-returns
 unfolding finiteCalib
-returns c = cc
+returns c = rw (c .is-finite4 .ensures, c .before .is-finite3 .ensures, c .before .before .is-finite2 .ensures, c .before .before .before .is-finite .ensures)
 
 pub is-finite-calib-spec : {M : Type 1} → statement M
 is-finite-calib-spec =

@@ -15,7 +15,7 @@ is-finite-vector-requires-2 c κs = search needs
 
 returns : tie.Need-returns
 unfolding finiteMeasurement
-returns c = cc
+returns c = rw (c .is-finite-vector2 .ensures, c .before .is-finite-vector .ensures, c .before .before .is-finite .ensures)
 
 pub is-finite-measurement-spec : {M : Type 1} → statement M
 is-finite-measurement-spec =

@@ -1,0 +1,26 @@
+use Rattle.drive.specs.Drive.{validDrive}
+use borrow.Author.Needs.{needs}
+use Rattle.drive.proofs.DifferentialDrive.is_valid.Statement.{statement}
+use Rattle.drive.proofs.DifferentialDrive.is_valid.Tie as tie
+
+is-finite-positive-requires : tie.Need-is-finite-positive-requires
+is-finite-positive-requires c κs = search needs
+
+is-finite-positive-requires-2 : tie.Need-is-finite-positive-requires-2
+is-finite-positive-requires-2 c κs = search needs
+
+is-finite-positive-requires-3 : tie.Need-is-finite-positive-requires-3
+is-finite-positive-requires-3 c κs = search needs
+
+returns : tie.Need-returns
+unfolding validDrive
+returns c = cc
+
+pub is-valid-spec : {M : Type 1} → statement M
+is-valid-spec =
+    tie.close
+    (tie.spec
+    is-finite-positive-requires
+    is-finite-positive-requires-2
+    is-finite-positive-requires-3
+    returns)

@@ -1,0 +1,17 @@
+use Rattle.drive.specs.Readings.{finiteMeasurement}
+use borrow.Author.Needs.{needs}
+use Rattle.drive.proofs.WheelMeasurement.is_finite.Statement.{statement}
+use Rattle.drive.proofs.WheelMeasurement.is_finite.Tie as tie
+
+is-finite-requires : tie.Need-is-finite-requires
+is-finite-requires c κs = search needs
+
+is-finite-requires-2 : tie.Need-is-finite-requires-2
+is-finite-requires-2 c κs = search needs
+
+returns : tie.Need-returns
+unfolding finiteMeasurement
+returns c = cc
+
+pub is-finite-spec : {M : Type 1} → statement M
+is-finite-spec = tie.close (tie.spec is-finite-requires is-finite-requires-2 returns)

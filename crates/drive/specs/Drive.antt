@@ -1,0 +1,96 @@
+-- 01, The wheel step: "Twist", "Rate from ticks", "Rate from rates", and "asked for on their own".
+use mathlib.Core.Bool.{Bool, not, _&&_}
+use mathlib.Core.List.{[], _∷_}
+use lib.IntN.{ℤ}
+use lib.Ieee.{Float}
+use Rattle.number.specs.Float.{_⊕_, _⊖_, _⊗_, _⊘_, −_, _<ᶠ_, _=ᶠ_, _when_else_, finite}
+use Rattle.number.specs.Constants.{half, c2, TAU}
+use Rattle.number.specs.Constants.{zero as +0}
+use Rattle.number.specs.Fit.{finitePositive}
+use Rattle.number.specs.Said.{Said, gives, refused, refusal}
+use Rattle.number.specs.Ticks.{tickDifference}
+use Rattle.number.specs.Whole.{wholeToFloat}
+use Rattle.drive.specs.declared.BodyTwist.{BodyTwist}
+use Rattle.drive.specs.declared.DifferentialDrive.{DifferentialDrive}
+use Rattle.drive.specs.declared.TwistColumns.{TwistColumns}
+use Rattle.drive.specs.declared.WheelRates.{WheelRates}
+use Rattle.drive.specs.declared.Reading.{Reading}
+use Rattle.drive.specs.declared.Reading.the-variants.{Ticks, AngularVelocity}
+
+-- 01, Refusal numbers, 7: "radius, track or ticks per turn not finite and above 0"
+unfoldable pub validDrive : DifferentialDrive → Bool
+validDrive d = finitePositive (d .«wheel_radius») && finitePositive (d .«track_width») && finitePositive (d .«ticks_per_revolution»)
+
+-- "no state": every number +0
+abbrev pub blankDrive : DifferentialDrive
+blankDrive = record { «wheel_radius» = +0; «track_width» = +0; «ticks_per_revolution» = +0 }
+
+-- ---- the twist
+
+-- "vx = 0.5·r·(left+right), vy = 0, wz = r·(right−left)/track, evaluated left to right"
+unfoldable pub twistOf : DifferentialDrive → WheelRates → BodyTwist
+twistOf d w = record {
+  vx = half ⊗ d .«wheel_radius» ⊗ (w .left ⊕ w .right);
+  vy = +0;
+  wz = d .«wheel_radius» ⊗ (w .right ⊖ w .left) ⊘ d .«track_width»;
+}
+
+unfoldable pub finiteTwist : BodyTwist → Bool
+finiteTwist v = finite (v .vx) && finite (v .vy) && finite (v .wz)
+
+abbrev pub rates : Float → Float → WheelRates
+rates left right = record { left = left; right = right }
+
+-- "Twist and rates asked for on their own: 7, 2 for an input, 3 or 4 for dt where there is one, 2 for the result."
+unfoldable pub twistAsked : DifferentialDrive → Float → Float → Said BodyTwist
+twistAsked d left right =
+    refusal 7 when not (validDrive d) else
+    refusal 2 when not (finite left && finite right) else
+    refusal 2 when not (finiteTwist (twistOf d (rates left right))) else
+    gives (twistOf d (rates left right))
+
+-- ---- its Jacobian: "columns (r/2, 0, −r/track), (r/2, 0, r/track)"
+
+unfoldable pub columnsOf : DifferentialDrive → TwistColumns
+columnsOf d = record {
+  left = record { vx = d .«wheel_radius» ⊘ c2; vy = +0; wz = − (d .«wheel_radius» ⊘ d .«track_width») };
+  right = record { vx = d .«wheel_radius» ⊘ c2; vy = +0; wz = d .«wheel_radius» ⊘ d .«track_width» };
+}
+
+-- its refusals are not in 01: as for the twist, which has two inputs more (docs/DECISIONS.md)
+unfoldable pub jacobianAsked : DifferentialDrive → Said TwistColumns
+jacobianAsked d =
+    refusal 7 when not (validDrive d) else
+    refusal 2 when not (finiteTwist (columnsOf d .left) && finiteTwist (columnsOf d .right)) else
+    gives (columnsOf d)
+
+-- ---- rates
+
+-- "difference as f64, times (TAU / ticks per turn), divided by dt"
+unfoldable pub rateFromTicks : DifferentialDrive → ℤ → Float → Float
+rateFromTicks d difference dt = wholeToFloat difference ⊗ (TAU ⊘ d .«ticks_per_revolution») ⊘ dt
+
+unfoldable pub ratesFromTicks : DifferentialDrive → ℤ → ℤ → Float → WheelRates
+ratesFromTicks d left right dt = rates (rateFromTicks d left dt) (rateFromTicks d right dt)
+
+-- The step from time 0 to time dt: a refusal that carries times carries these.
+unfoldable pub ratesAsked : DifferentialDrive → ℤ → ℤ → Float → Said WheelRates
+ratesAsked d left right dt =
+    let w = ratesFromTicks d left right dt in
+    refusal 7 when not (validDrive d) else
+    refusal 2 when not (finite dt) else
+    refused 3 (dt ∷ +0 ∷ []) when dt <ᶠ +0 else
+    refused 4 (dt ∷ []) when dt =ᶠ +0 else
+    refusal 2 when not (finite (w .left) && finite (w .right)) else
+    gives w
+
+-- "Rate from rates: 0.5·(old + new)."
+unfoldable pub meanRates : Float → Float → Float → Float → WheelRates
+meanRates left right left′ right′ = rates (half ⊗ (left ⊕ left′)) (half ⊗ (right ⊕ right′))
+
+-- The rates over the time dt from one reading to the next of its kind. Readings of two kinds are refused before their rates are asked for.
+abbrev pub ratesBetween : DifferentialDrive → Reading → Reading → Float → WheelRates
+ratesBetween d (Ticks left right) (Ticks left′ right′) dt = ratesFromTicks d (tickDifference left left′) (tickDifference right right′) dt
+ratesBetween d (AngularVelocity left right) (AngularVelocity left′ right′) dt = meanRates left right left′ right′
+ratesBetween d (Ticks left right) (AngularVelocity left′ right′) dt = rates +0 +0
+ratesBetween d (AngularVelocity left right) (Ticks left′ right′) dt = rates +0 +0

@@ -1,0 +1,2 @@
+-- 01, Inertial accumulation: bias corrections and prediction.
+pub mod Correction

@@ -1,0 +1,3 @@
+-- 01, Inertial accumulation: batches and windows.
+pub mod Batch
+pub mod Window

@@ -1,0 +1,23 @@
+-- 01, The wheel step: what an integrator accumulates, from nothing, interval by interval.
+use mathlib.Core.Bool.{Bool, _&&_}
+use Rattle.number.specs.Float.{_⊕_, finite}
+use Rattle.number.specs.Constants.{zero as +0}
+use Rattle.planar.specs.Motion.{identity, finiteMotion}
+use Rattle.planar.specs.Compose.{composed}
+use Rattle.drive.specs.declared.DifferentialDrive.{DifferentialDrive}
+use Rattle.drive.specs.declared.WheelNoise.{WheelNoise}
+use Rattle.interval.specs.declared.Accumulated.{Accumulated}
+use Rattle.interval.specs.declared.Interval.{Interval}
+use Rattle.interval.specs.Interval.{intervalMotion}
+
+-- "identity motion, an all-zero covariance and dt 0, every zero being +0"
+abbrev pub none : Accumulated
+none = record { motion = identity; dt = +0 }
+
+-- "motion, covariance and (added) the new total dt must be finite"
+unfoldable pub finiteAccumulated : Accumulated → Bool
+finiteAccumulated a = finiteMotion (a .motion) && finite (a .dt)
+
+-- "then the stored motion with the result", and "the new total dt"
+unfoldable pub advanced : Accumulated → DifferentialDrive → WheelNoise → Interval → Accumulated
+advanced a d n i = record { motion = composed (a .motion) (intervalMotion d n i); dt = a .dt ⊕ i .dt }

@@ -1,0 +1,6 @@
+-- Laws that belong to no one function, and of the functions that write lines.
+pub mod Cases
+pub mod Run
+pub mod Example
+mod Readings
+mod Whole

@@ -1,0 +1,5 @@
+-- 01, The log: the lines that the replay of a log prints.
+pub mod Ascii
+pub mod Digits
+pub mod Lines
+pub mod Put

@@ -1,0 +1,17 @@
+use Rattle.planar.specs.Motion.{finiteMotion}
+use borrow.Author.Needs.{needs}
+use Rattle.planar.proofs.PlanarMotion.is_finite.Statement.{statement}
+use Rattle.planar.proofs.PlanarMotion.is_finite.Tie as tie
+
+is-finite-vector-requires : tie.Need-is-finite-vector-requires
+is-finite-vector-requires c κs = search needs
+
+is-finite-requires : tie.Need-is-finite-requires
+is-finite-requires c κs = search needs
+
+returns : tie.Need-returns
+unfolding finiteMotion
+returns c = cc
+
+pub is-finite-spec : {M : Type 1} → statement M
+is-finite-spec = tie.close (tie.spec is-finite-vector-requires is-finite-requires returns)

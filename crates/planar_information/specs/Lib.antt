@@ -1,0 +1,2 @@
+-- The information of a planar motion.
+pub mod Block

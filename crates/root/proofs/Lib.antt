@@ -1,0 +1,14 @@
+-- Laws that belong to no one function.
+pub mod Cases
+mod Newton
+mod Near
+mod Extend
+mod Halves
+mod Values
+mod Rounded
+mod Floats
+mod Choice
+mod Descend
+mod Exists
+pub mod Laws
+pub mod Examples

@@ -1,0 +1,2 @@
+-- 01, Inertial accumulation: turns.
+pub mod Rotation

@@ -1,0 +1,8 @@
+-- Laws that belong to no one function.
+pub mod Steps
+pub mod Chains
+pub mod Lists
+mod Kept
+pub mod SoFar
+pub mod Theorem
+pub mod Example

@@ -1,0 +1,2 @@
+-- 01, sine and cosine: one fixed evaluation, and what is refused.
+pub mod Turn

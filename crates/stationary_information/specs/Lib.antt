@@ -1,0 +1,2 @@
+-- The information of still factors.
+pub mod Information

@@ -1,0 +1,2 @@
+-- 01, Inertial accumulation: IEEE total order, in whole numbers.
+pub mod Order

@@ -1,0 +1,2 @@
+-- Three numbers of f64.
+pub mod Vector

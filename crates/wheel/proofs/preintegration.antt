@@ -1,2 +1,0 @@
-mod Judged
-mod Turned
