@@ -2,5 +2,9 @@
 pub mod Cases
 pub mod Run
 pub mod Example
+mod Put
+mod Decimal
+mod Lengths
+mod Spaced
 mod Readings
 mod Whole
