@@ -10,7 +10,7 @@ ghost use Rattle.runs.specs.Run.{ranOf};
 ghost use Rattle.wheel_odom.specs.Information.{informationOf};
 ghost use Rattle.log_lines.specs.Lines.{linesOf};
 ghost use Rattle.imu_window.specs.Batch.{batchOf};
-ghost use Rattle.samples.specs.Window.{bufferAfter};
+ghost use Rattle.window_order.specs.Window.{bufferAfter};
 ghost use Rattle.latchfern.specs.Exported.{board, cart, symmetricMeasurement};
 use drive::DifferentialDrive;
 use drive::WheelNoise;
@@ -68,7 +68,7 @@ pub extern "C" fn latchfern_replay(log: &[u8]) -> usize
 pub extern "C" fn latchfern_order(samples: &[f64], t0: f64, t1: f64, order: &mut [usize])
     ensures { λ _. ⌜ now (order .exit) ≡ bufferAfter (now (samples .entry)) t0 t1 (now (order .entry)) ⌝ }
 {
-    samples::ordered_window(samples, t0, t1, order);
+    window_order::ordered_window(samples, t0, t1, order);
 }
 
 // The first entry of the information of a measurement with the default sigmas, its covariance exactly symmetric.

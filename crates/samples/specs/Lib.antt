@@ -1,4 +1,2 @@
--- 01, Inertial accumulation: samples in flat numbers, which of them lie in the window, and their order.
+-- 01, Inertial accumulation: samples in flat numbers.
 pub mod Samples
-pub mod Order
-pub mod Window

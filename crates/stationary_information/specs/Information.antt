@@ -1,4 +1,5 @@
 -- 01, Still stretches: "`information`: 11, then 2." Every block is diagonal.
+use Prim.Native.Nat.{ℕ, _+_, _*_}
 use mathlib.Core.Bool.{Bool, true, not, _&&_}
 use mathlib.Core.List.{List, [], _∷_}
 use lib.ListN.{replicate, getD}
@@ -55,11 +56,15 @@ abbrev pub finiteRow : GyroRow → Bool
 finiteRow NoRow = true
 finiteRow (Row g w) = finiteMean g && finite w
 
--- Every number that is not a written zero: of the pose, the two that its diagonal repeats.
+-- on the diagonal of the pose's six rows and columns
+abbrev pub poseAt : StationaryInfo → ℕ → Float
+poseAt i k = getD (i .pose) (k + k * 6) nan
+
+-- Every number that is not a written zero: of the pose, the two that its diagonal repeats, the translation's at 0, 1, 2 and the rotation's at 3, 4, 5.
 unfoldable pub finiteInfo : StationaryInfo → Bool
 finiteInfo i =
-    finite (getD (i .pose) 0 nan)
-    && finite (getD (i .pose) 21 nan)
+    finite (poseAt i 0)
+    && finite (poseAt i 3)
     && finite (i .velocity)
     && finite (i .«gyro_bias»)
     && finite (i .«accel_bias»)

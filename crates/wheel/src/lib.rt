@@ -3,10 +3,10 @@ pub mod state;
 pub mod step;
 
 use drive::DifferentialDrive;
-use drive::Refusal;
 use drive::WheelMeasurement;
 use drive::WheelNoise;
 use interval::Accumulated;
+use step_order::Outcome;
 
 // The last reading that was taken, where the next interval starts.
 pub enum Last {
@@ -24,11 +24,6 @@ pub struct WheelPreintegration {
     pub settings: Settings,
     pub accumulated: Accumulated,
     pub last: Last,
-}
-
-pub enum Outcome {
-    Accepted,
-    Refused(Refusal),
 }
 
 // What became of a call, beside the state: the new one, or the one that was handed in.

@@ -6,7 +6,6 @@ ghost use Rattle.wheel.specs.Answers.{refusedTold, toldAnswer};
 ghost use Rattle.wheel.specs.Integrator.{blank as blankOf, fresh as freshOf, makeOf, moved as movedOf, restarted};
 use crate::Answer;
 use crate::Last;
-use crate::Outcome;
 use crate::Settings;
 use crate::WheelPreintegration;
 use drive::DifferentialDrive;
@@ -15,6 +14,7 @@ use drive::WheelMeasurement;
 use drive::WheelNoise;
 use interval::Accumulated;
 use planar::PlanarMotion;
+use step_order::Outcome;
 
 impl WheelPreintegration {
     // An empty integrator; the first reading sets its start.

@@ -1,0 +1,3 @@
+-- 01, Inertial accumulation: which samples lie in the window, and their order.
+pub mod Order
+pub mod Window
