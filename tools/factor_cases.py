@@ -1,6 +1,6 @@
 #!/usr/bin/env python3
-"""Makes crates/factor_cases/stdin (the records that ask the wheel and still factors) and crates/factor_cases/stdout (what each answers, in
-bits).
+"""Makes the first part of crates/factor_cases/stdin (the records that ask the wheel and still factors) and of crates/factor_cases/stdout
+(what each answers, in bits). The layout of a record and of a line stands at the head of crates/factor_cases/src/main.rt.
 
 No expected value comes from the code under test: this is document 01 once more, sentence by sentence, in Python's floats, which are IEEE
 f64 and overflow and give NaN as IEEE says. A quotient of two floats is IEEE's too, except by zero, and `inverse` sees to that. Of `math`
@@ -11,30 +11,19 @@ The cases are fixed: their random part is a linear congruential generator that s
 arguments.
 """
 import math
-import struct
+import sys
 from fractions import Fraction
 from itertools import combinations, product as pairs_of
-from pathlib import Path
 from typing import NamedTuple
+
+sys.dont_write_bytecode = True
+from parts import of_bits, raw, write
 
 INF, NAN = float("inf"), float("nan")
 PI, TAU = math.pi, math.tau
 
 
 # ---- bits
-
-
-def bits(x):
-    """The bits of a float; of any NaN, those of one."""
-    return 0x7FF8000000000000 if x != x else raw(x)
-
-
-def raw(x):
-    return struct.unpack("<Q", struct.pack("<d", x))[0]
-
-
-def of_bits(word):
-    return struct.unpack("<d", struct.pack("<Q", word))[0]
 
 
 def beside(x, n):
@@ -377,11 +366,7 @@ def still_information(f):
     return info
 
 
-# ---- what the program must write
-
-
-def reals(*xs):
-    return "".join(f" {bits(x):016x}" for x in xs)
+# ---- what goes in and comes out, as numbers
 
 
 def columns(rows):
@@ -389,134 +374,89 @@ def columns(rows):
     return sum(transpose(rows), [])
 
 
-def planar_text(m):
-    return " delta" + reals(*m.delta) + " covariance" + reals(*columns(m.covariance))
+def numbers_of(m):
+    return [*m.delta, *columns(m.covariance), m.z, m.tilt]
 
 
-def measurement_text(m):
-    return planar_text(m) + " sigmas" + reals(m.z, m.tilt)
+def limit_numbers(a, goes_in=False):
+    """A flag and the limit. Of none, what stands behind the flag where it goes in does not count; so with the mean of a still factor."""
+    return [1, a] if a is not None else [0, 1.0] if goes_in else [0]
 
 
-def ends_text(f):
-    return f" from {f.start:016x} to {f.end:016x}"
+def factor_numbers(f, goes_in=False):
+    return [f.start, f.end, *numbers_of(f.measurement), *f.first, *f.last, *limit_numbers(f.limit, goes_in)]
 
 
-def extrinsic_text(t):
-    return " rotation" + reals(*t[:9]) + " translation" + reals(*t[9:])
+def still_numbers(f, goes_in=False):
+    gyro = [1, *f.gyro] if f.gyro else [0, 1, 2, 3, 4] if goes_in else [0]
+    return [f.start, f.end, f.span, *gyro, *f.calibration, *f.sigmas, *limit_numbers(f.limit, goes_in)]
 
 
-def limit_text(a):
-    return " no limit" if a is None else " limit" + reals(a)
+def info_numbers(info):
+    return [*columns(info.pose), *info[1:4], *([1, *info.row] if info.row else [0])]
 
 
-def factor_text(f):
-    return ends_text(f) + measurement_text(f.measurement) + extrinsic_text(f.first) + extrinsic_text(f.last) + limit_text(f.limit)
-
-
-def gyro_text(g):
-    return reals(*g[:3]) + " over" + reals(g[3])
-
-
-def still_text(f):
-    if f is None:
-        return ""
-    gyro = " no mean" if f.gyro is None else " mean" + gyro_text(f.gyro)
-    numbers = " calibration" + reals(*f.calibration) + " sigmas" + reals(*f.sigmas)
-    return ends_text(f) + " span" + reals(f.span) + gyro + numbers + limit_text(f.limit)
-
-
-def info_text(info):
-    row = " no row" if info.row is None else " row" + gyro_text(info.row[:4]) + reals(info.row[4])
-    return " pose" + reals(*columns(info.pose)) + " others" + reals(*info[1:4]) + row
-
-
-def valid_text(is_valid):
-    return "valid" if is_valid else "invalid"
-
-
-def answer(success, call, text, blank):
-    """The word for success and the value, or the number of the refusal and the blank value."""
+def answer(call, numbers, blank):
+    """0 and the numbers of the value, or the number of the refusal and those of the blank value."""
     try:
-        return success + text(call())
+        return [0, *numbers(call())]
     except Refused as why:
-        return f"refused {why.number}" + text(blank)
+        return [why.number, *numbers(blank)]
 
 
-# ---- a case: its record, which is its kind and what goes in, and what must be written of it. A builder for each kind
-
-
-def measurement_words(m):
-    return [raw(x) for x in numbers_of(m)]
-
-
-def limit_words(a):
-    """A flag and the limit. Of none, what stands behind the flag does not count; so with the mean of a still factor."""
-    return [0, raw(1.0)] if a is None else [1, raw(a)]
-
-
-def factor_words(f):
-    return [f.start, f.end, *measurement_words(f.measurement), *map(raw, f.first + f.last), *limit_words(f.limit)]
-
-
-def still_words(f):
-    gyro = [0, 1, 2, 3, 4] if f.gyro is None else [1, *map(raw, f.gyro)]
-    return [f.start, f.end, raw(f.span), *gyro, *map(raw, f.calibration + f.sigmas), *limit_words(f.limit)]
+# ---- a case: its record, which is its kind and what goes in, and its line behind the kind. A builder for each kind
 
 
 def group(number):
-    return [1, number], f"group {number}"
+    return [1, number], [number]
 
 
 def made(m):
-    text = "new" + measurement_text(with_defaults(m.delta, m.covariance)) + "\nwith sigmas" + measurement_text(m)
-    text += "\nfrom motion" + measurement_text(with_defaults(m.delta, m.covariance)) + "\nplanar motion" + planar_text(m)
-    return [2, *measurement_words(m)], text
+    plain = numbers_of(with_defaults(m.delta, m.covariance))
+    return [2, *numbers_of(m)], [*plain, *numbers_of(m), *plain, *numbers_of(m)[:12]]
 
 
 def informed(m):
-    text = answer("given", lambda: information(m), lambda matrix: reals(*columns(matrix)), NO_MATRIX)
-    return [3, *measurement_words(m)], "information " + text
+    return [3, *numbers_of(m)], answer(lambda: information(m), columns, NO_MATRIX)
 
 
 def measurements_joined(a, b):
-    text = answer("accepted", lambda: composed(a, b), measurement_text, NO_MEASUREMENT)
-    return [4, *measurement_words(a), *measurement_words(b)], "composed " + text
+    return [4, *numbers_of(a), *numbers_of(b)], answer(lambda: composed(a, b), numbers_of, NO_MEASUREMENT)
 
 
 def factor_made(f):
-    return [5, *factor_words(f)], "factor" + factor_text(f)
+    return [5, *factor_numbers(f, True)], factor_numbers(f)
 
 
 def factor_judged(f):
-    return [6, *factor_words(f)], "factor " + valid_text(fit_factor(f))
+    return [6, *factor_numbers(f, True)], [int(fit_factor(f))]
 
 
 def factors_joined(a, b):
-    text = answer("accepted", lambda: factors_composed(a, b), factor_text, NO_FACTOR)
-    return [7, *factor_words(a), *factor_words(b)], "factors " + text
+    line = answer(lambda: factors_composed(a, b), factor_numbers, NO_FACTOR)
+    return [7, *factor_numbers(a, True), *factor_numbers(b, True)], line
 
 
 def still_made(f):
     """Only its ends, span, calibration and gyro mean go in."""
     plain = still_new(f.start, f.end, f.span, f.calibration)
-    text = "still new" + still_text(plain) + "\nstill with gyro" + still_text(plain._replace(gyro=f.gyro))
-    return [8, f.start, f.end, *map(raw, (f.span, *f.calibration, *f.gyro))], text
+    line = still_numbers(plain) + still_numbers(plain._replace(gyro=f.gyro))
+    return [8, f.start, f.end, f.span, *f.calibration, *f.gyro], line
 
 
 def still_informed(f):
-    text = answer("given", lambda: still_information(f), info_text, NO_INFO)
-    return [9, *still_words(f)], "still " + valid_text(fit_still(f)) + " information " + text
+    return [9, *still_numbers(f, True)], [int(fit_still(f)), *answer(lambda: still_information(f), info_numbers, NO_INFO)]
 
 
 def stills_joined(a, b):
     """A refusal has no factor beside it."""
-    text = answer("accepted", lambda: still_composed(a, b), still_text, None)
-    return [10, *still_words(a), *still_words(b)], "still composed " + text
+    line = answer(lambda: still_composed(a, b), lambda f: still_numbers(f) if f else [], None)
+    return [10, *still_numbers(a, True), *still_numbers(b, True)], line
 
 
 def limits_joined(a, b):
-    text = "joined" + limit_text(joined_limit(a, b)) + " " + valid_text(fit_limit(joined_limit(a, b)))
-    return [11, *limit_words(a), *limit_words(b)], text
+    limit = joined_limit(a, b)
+    return [11, *limit_numbers(a, True), *limit_numbers(b, True)], [*limit_numbers(limit), int(fit_limit(limit))]
 
 
 # ---- numbers for the cases
@@ -568,10 +508,6 @@ def least_where(test, low, high):
         middle = (low + high) // 2
         low, high = (low, middle) if test(of_bits(middle)) else (middle, high)
     return of_bits(high)
-
-
-def numbers_of(m):
-    return [*m.delta, *columns(m.covariance), m.z, m.tilt]
 
 
 def of_numbers(xs):
@@ -1016,11 +952,4 @@ def all_cases():
     return [case for number, cases in enumerate(groups, 1) for case in [group(number)] + cases()]
 
 
-def main():
-    cases = all_cases()
-    folder = Path(__file__).resolve().parent.parent / "crates" / "factor_cases"
-    (folder / "stdin").write_bytes(b"".join(struct.pack(f"<{len(words)}Q", *words) for words, _ in cases))
-    (folder / "stdout").write_text("".join(text + "\n" for _, text in cases))
-
-
-main()
+write("factor_cases", all_cases())

@@ -1,19 +1,18 @@
 #!/usr/bin/env python3
-"""Makes crates/number_cases/stdin (the records that the program judges) and crates/number_cases/stdout (what it must write).
+"""Makes crates/number_cases/stdin (the records that ask the number leaves) and crates/number_cases/stdout (what each answers, in bits).
 
 No expected value comes from the code under test. Whole numbers, roots and the f64s of references are rounded here from exact fractions,
 ties to even; roots come from whole-number square roots; sines and cosines are Taylor sums of 90 decimal digits; tick differences and
-halving counts are the words of 01 in whole numbers and fractions. Of `math` only isqrt, floor and factorial are used, which are exact.
-The largest error is that of the evaluation in docs/SINCOS.md, worked out in Python's floats, which are IEEE f64, against those sums.
+halving counts are the words of 01 in whole numbers and fractions. Of `math` only isqrt and floor are used, which are exact.
 
 The list is fixed: its random part is a linear congruential generator that starts from the same number. Run it from anywhere, with no
 arguments.
 """
 import math
-import struct
 from decimal import Decimal, getcontext
 from fractions import Fraction
-from pathlib import Path
+
+from parts import write
 
 getcontext().prec = 90
 INF, NAN, SIGN = 0x7FF0000000000000, 0x7FF8000000000000, 1 << 63
@@ -55,10 +54,6 @@ def value(bits):
     return digits * power(-1074) if field == 0 else ((1 << 52) + digits) * power(field - 1075)
 
 
-def as_float(bits):
-    return struct.unpack("<d", struct.pack("<Q", bits))[0]
-
-
 def around(bits, n):
     """A pattern and its neighbours, n to each side, none below zero."""
     return [b for b in range(bits - n, bits + n + 1) if b >= 0]
@@ -86,7 +81,7 @@ def random_from(low, high):
     return low + random_below(high - low + 1)
 
 
-# ---- 1: whole numbers, each with the bits of the nearest f64
+# ---- 1: whole numbers, each with the bits of the nearest f64. A case is its record and its line
 
 
 def wholes():
@@ -100,12 +95,7 @@ def wholes():
         ns += [2**k + d for d in (-2, -1, 0, 1, 2)] + [2**k - gap // 4 + d for d in (-1, 0, 1)]
     ns += [random_below(2 ** random_from(1, 63)) for _ in range(200)]
     ns = [n for m in ns for n in (m, -m)]
-    return [(1, word(n), nearest(n)) for n in ns if -(2**63) <= n < 2**63]
-
-
-def word(n):
-    """A signed number's 64 bits."""
-    return n % 2**64
+    return [([1, n], [nearest(n)]) for n in ns if -(2**63) <= n < 2**63]
 
 
 # ---- 2: tick counts, from and to, with the difference. 01: "taken modulo 2^64 as a signed number. From 2^63-1 to -2^63 it is 1."
@@ -118,7 +108,7 @@ def ticks():
         a, step = random_from(-(2**63), 2**63 - 1), random_from(-1000, 1000)
         pairs += [(a, signed(a + step)), (a, random_from(-(2**63), 2**63 - 1))]
         pairs += [(signed(2**63 + step), signed(2**63 - step))]  # across the wrap, either way
-    return [(2, word(a), word(b), word(signed(b - a))) for a, b in pairs]
+    return [([2, a, b], [signed(b - a)]) for a, b in pairs]
 
 
 def signed(n):
@@ -144,7 +134,7 @@ def roots():
             xs += [nearest(power_of_four) - d, nearest(power_of_four) + d]
     below = [SIGN + 1, SIGN + SMALLEST - 1, SIGN + SMALLEST, SIGN + nearest(1), SIGN + LARGEST, SIGN + INF]
     below += [SIGN + random_from(1, LARGEST) for _ in range(30)]
-    return [(3, x, 0, root(x)) for x in xs] + [(3, x, 2) for x in below + NANS]
+    return [([3, x], [0, root(x)]) for x in xs] + [([3, x], [2]) for x in below + NANS]
 
 
 def root(bits):
@@ -186,40 +176,15 @@ def arctangent(n, digits):
 # Machin's formula
 REAL_PI = Fraction(16 * arctangent(5, 120) - 4 * arctangent(239, 120), 10**120)
 
-# the constants of docs/SINCOS.md: F[k] is the f64 nearest to 1/k!
-PI = as_float(nearest(REAL_PI))
-H = as_float(nearest(REAL_PI / 2))
-L = as_float(nearest(REAL_PI / 2 - Fraction(H)))
-F = [as_float(nearest(Fraction(1, math.factorial(k)))) for k in range(18)]
-JOINS = [PI / 4.0, 3.0 * PI / 4.0, 5.0 * PI / 4.0]
-
-
-def evaluation(x):
-    """docs/SINCOS.md, steps 2 to 5."""
-    if abs(x) <= 0.03125:
-        z = x * x
-        return x - x * (z * (F[3] - z * (F[5] - z * F[7]))), 1.0 - z * (F[2] - z * (F[4] - z * F[6]))
-    a = abs(x)
-    q = sum(a > join for join in JOINS)
-    r = (a - q * H) - q * L
-    z = r * r
-    p = F[17]
-    for k in range(15, 1, -2):
-        p = F[k] - z * p
-    s = r - r * (z * p)
-    p = F[16]
-    for k in range(14, 0, -2):
-        p = F[k] - z * p
-    c = 1.0 - z * p
-    sine, cosine = [(s, c), (c, -s), (-s, -c), (-c, s)][q]
-    return (-sine if x < 0 else sine), cosine
+# where the evaluation of docs/SINCOS.md passes from one form to the next
+JOINS = [power(-5), REAL_PI / 4, 3 * REAL_PI / 4, 5 * REAL_PI / 4, 4]
 
 
 def angles():
     xs = [0, 1, 2, SMALLEST - 1, SMALLEST, SMALLEST + 1]
     four = nearest(4)
-    for join in [nearest(power(-5)), four] + [nearest(Fraction(j)) for j in JOINS]:
-        xs += [b for b in around(join, 3) if b <= four]
+    for join in JOINS:
+        xs += [b for b in around(nearest(join), 3) if b <= four]
     for k in (1, 2):
         quarter = REAL_PI * k / 2
         xs += around(nearest(quarter), 5)
@@ -234,37 +199,29 @@ def angles():
     return xs
 
 
-def two_parts(d):
-    """A number as the f64 nearest to it, and the f64 nearest to what is left."""
-    d = Fraction(d)
-    high = nearest(d)
-    return high, nearest(d - value(high))
+# 01: "Runs hold it within 2e-15 of Rust's." What is held is the distance to the f64 nearest to the sum, which is at most 2^-54 from it, and the difference of
+# two f64s so close has no error that counts beside another 2^-54.
+TOLERANCE = nearest(Fraction("2e-15") - power(-53))
 
 
 def turns():
-    records, largest = [], 0
-    for bits in angles():
-        references = taylor(value(bits))
-        records += [(4, bits, *two_parts(references[0]), *two_parts(references[1]))]
-        for got, exact in zip(evaluation(as_float(bits)), references):
-            largest = max(largest, abs(Fraction(got) - Fraction(exact)))
-    assert largest < Fraction("2e-15")
-    # the program works the error out in f64s, which is near enough unless a whole number of units is near
-    units = largest * 10**17
-    assert Fraction(1, 100) < units % 1 < Fraction(99, 100)
-    return records, math.floor(units)
+    cases = []
+    for x in angles():
+        sine, cosine = (nearest(Fraction(d)) for d in taylor(value(x)))
+        cases += [([104, x, TOLERANCE, sine, TOLERANCE, cosine], [0, sine, cosine])]
+    return cases
 
 
-# ---- 5: refused angles. 01: "not finite is refused 2, above 4 is refused 8."
+# ---- refused angles. 01: "not finite is refused 2, above 4 is refused 8."
 
 
 def refused_angles():
     above = [nearest(4) + 1, nearest(4) + 2, nearest(5), nearest(2 * REAL_PI), nearest(10**300), LARGEST]
     above += [random_from(nearest(4) + 1, LARGEST) for _ in range(20)]
-    return [(5, x, 8) for x in both_signs(above)] + [(5, x, 2) for x in [INF, SIGN + INF] + NANS]
+    return [([4, x], [8]) for x in both_signs(above)] + [([4, x], [2]) for x in [INF, SIGN + INF] + NANS]
 
 
-# ---- 6: halving counts. 01: "At most 1+1e-9: 0 halvings. Otherwise the least k with 2^k not below the ratio, never more than 20;
+# ---- 5: halving counts. 01: "At most 1+1e-9: 0 halvings. Otherwise the least k with 2^k not below the ratio, never more than 20;
 # infinite gives 20, NaN 0." 1+1e-9 is the f64.
 
 
@@ -275,7 +232,7 @@ def halvings():
     for k in range(22):
         xs += around(nearest(2**k), 1)
     xs += [random_from(limit, nearest(2**22)) for _ in range(50)]
-    return [(6, x, count(x, limit), nearest(2 ** count(x, limit))) for x in xs]
+    return [([5, x], [count(x, limit), nearest(2 ** count(x, limit))]) for x in xs]
 
 
 def count(bits, limit):
@@ -288,23 +245,4 @@ def count(bits, limit):
     return next((k for k in range(20) if 2**k >= value(bits)), 20)
 
 
-def main():
-    sines, units = turns()
-    kinds = [
-        ("whole numbers: {} right, 0 wrong", wholes()),
-        ("tick differences: {} right, 0 wrong", ticks()),
-        ("roots: {} right, 0 wrong", roots()),
-        ("sines and cosines: {} within 2e-15, 0 beyond", sines),
-        ("angles refused: {} right, 0 wrong", refused_angles()),
-        ("halving counts: {} right, 0 wrong", halvings()),
-        ("other kinds: {} right, 0 wrong", []),
-    ]
-    records = [record for _, some in kinds for record in some]
-    lines = [line.format(len(some)) for line, some in kinds]
-    lines += [f"largest error of a sine or cosine: {units}e-17", f"records: {len(records)}"]
-    folder = Path(__file__).resolve().parent.parent / "crates" / "number_cases"
-    (folder / "stdin").write_bytes(b"".join(struct.pack("<6Q", *record, *[0] * (6 - len(record))) for record in records))
-    (folder / "stdout").write_text("\n".join(lines) + "\n")
-
-
-main()
+write("number_cases", wholes() + ticks() + roots() + turns() + refused_angles() + halvings())

@@ -1,9 +1,6 @@
-// What every program of cases shares. A record is read from standard input word by word, each a little-endian word of 64 bits; what comes of it is
-// printed in bits, or compared with the words that follow. Past the end of the input every word is 0, which is the kind of
-// no record.
-use inertial::ImuBias;
+// What every program of cases shares. In goes a record at a time, its kind and what the kind has behind it, each a little-endian word of 64 bits; past the end
+// of the input every word is 0, which is the kind of no record. Out comes a line for each: the kind, and words as 16 hexadecimal digits, each behind a space.
 use inertial::ImuCalib;
-use inertial::ImuMeasurement;
 use libc::STDIN_FILENO;
 use libc::STDOUT_FILENO;
 
@@ -15,21 +12,8 @@ pub fn read_word() -> u64 {
     words::u64_at(&s, 0)
 }
 
-pub fn read_i64() -> i64 {
-    number::tick::of_bits(read_word())
-}
-
 pub fn read_f64() -> f64 {
     words::of_bits(read_word())
-}
-
-// Reads so many words that say nothing.
-pub fn skip(n: u64) {
-    let mut left = n;
-    while left > 0 {
-        read_word();
-        left -= 1;
-    }
 }
 
 pub fn read_numbers(out: &mut [f64]) {
@@ -53,12 +37,6 @@ pub fn read_nine() -> [f64; 9] {
     out
 }
 
-pub fn read_bias() -> ImuBias {
-    let gyro = read_three();
-    let accel = read_three();
-    ImuBias { gyro, accel }
-}
-
 pub fn read_calib() -> ImuCalib {
     let gyro_noise = read_f64();
     let accel_noise = read_f64();
@@ -72,119 +50,53 @@ pub fn read_calib() -> ImuCalib {
     }
 }
 
-pub fn read_measurement() -> ImuMeasurement {
-    let timestamp = read_f64();
-    let gyro = read_three();
-    let accel = read_three();
-    ImuMeasurement {
-        timestamp,
-        gyro,
-        accel,
-    }
-}
-
 // ---- printing
 
-pub fn write(text: &[u8]) {
-    io::write_all(STDOUT_FILENO, text);
-}
-
-pub fn print_count(name: &[u8], n: u64) {
-    write(name);
-    io::print_decimal(STDOUT_FILENO, n);
+pub fn begin_line(kind: u64) {
+    io::print_decimal(STDOUT_FILENO, kind);
 }
 
 pub fn end_line() {
-    write(b"\n");
+    io::write_all(STDOUT_FILENO, b"\n");
 }
 
-// The number of the group of cases that begins here.
-pub fn begin_group() {
-    print_count(b"group ", read_word());
-}
-
-// A refusal, by its number.
-pub fn print_refused(n: u64) {
-    print_count(b"refused ", n);
-}
-
-// A space, and the bits in hexadecimal.
-pub fn print_bits(bits: u64) {
-    write(b" ");
-    io::print_hex(STDOUT_FILENO, bits, 16);
-}
-
-pub fn print_f64(x: f64) {
-    print_bits(words::to_bits(x));
+pub fn print_word(word: u64) {
+    io::write_all(STDOUT_FILENO, b" ");
+    io::print_hex(STDOUT_FILENO, word, 16);
 }
 
 pub fn print_numbers(xs: &[f64]) {
     let mut i = 0;
     while i < xs.len() {
-        print_f64(xs[i]);
+        print_word(words::to_bits(xs[i]));
         i += 1;
     }
 }
 
-pub fn print_three(x: [f64; 3]) {
-    print_numbers(&x);
+// Numbers of a record that, from the kind 100 on, are held against others: these then stand in the input, behind a tolerance.
+pub fn print_near(kind: u64, xs: &[f64]) {
+    if kind >= 100 {
+        print_held(xs, read_f64());
+    } else {
+        print_numbers(xs);
+    }
 }
 
-pub fn print_nine(m: [f64; 9]) {
-    print_numbers(&m);
-}
-
-pub fn print_calib(calib: ImuCalib) {
-    print_f64(calib.gyro_noise);
-    print_f64(calib.accel_noise);
-    print_f64(calib.gyro_bias_noise);
-    print_f64(calib.accel_bias_noise);
-}
-
-// ---- comparing: each takes what is expected off the input, whatever came of the ones before
-
-pub fn is_word(n: u64) -> bool {
-    read_word() == n
-}
-
-// Bit for bit.
-pub fn is_same(x: f64) -> bool {
-    is_word(words::to_bits(x))
-}
-
-pub fn is_calib_same(calib: ImuCalib) -> bool {
-    is_same(calib.gyro_noise)
-        & is_same(calib.accel_noise)
-        & is_same(calib.gyro_bias_noise)
-        & is_same(calib.accel_bias_noise)
-}
-
-// Numbers behind their tolerance.
-pub fn are_near(xs: &[f64]) -> bool {
-    let tolerance = read_f64();
-    let mut agrees = true;
+fn print_held(xs: &[f64], tolerance: f64) {
     let mut i = 0;
     while i < xs.len() {
-        agrees = is_within(xs[i] - read_f64(), tolerance) & agrees;
+        print_word(words::to_bits(held(xs[i], read_f64(), tolerance)));
         i += 1;
     }
-    agrees
 }
 
-// A number behind its tolerance.
-pub fn is_near(x: f64) -> bool {
-    let tolerance = read_f64();
-    is_within(x - read_f64(), tolerance)
-}
-
-pub fn are_three_near(x: [f64; 3]) -> bool {
-    are_near(&x)
-}
-
-pub fn are_nine_near(m: [f64; 9]) -> bool {
-    are_near(&m)
-}
-
-pub fn is_within(d: f64, tolerance: f64) -> bool {
-    (d <= tolerance) & (-tolerance <= d)
+// What x is held against, where the two are no further apart than the tolerance, else x. A tolerance below 0 is that of a heading, which counts modulo a turn.
+fn held(x: f64, other: f64, tolerance: f64) -> f64 {
+    let apart = number::size(x - other);
+    let turned = number::size(apart - number::TAU);
+    let is_near = apart <= number::size(tolerance);
+    if is_near | (tolerance < 0.0) & (turned <= -tolerance) {
+        return other;
+    }
+    x
 }

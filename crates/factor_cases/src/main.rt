@@ -1,14 +1,21 @@
-// Asks the wheel and still factors by the records of standard input, and writes what each answers, in bits, a blank beside a refusal too. A
-// record is its kind and what goes in, each a little-endian word of 64 bits. tools/factor_cases.py makes the input and the expected output.
+// Asks the wheel and still factors by the records of standard input, and writes what each answers, in bits, a blank beside a refusal too. The crate `cases` says
+// what a record and a line are. tools/factor_cases.py makes the input and the expected output, but for the Rust's answers at their end, which are oracle/run
+// --sample's. A record is its kind and:
 //
 //    1  a group of cases begins: its number
 //    2  every way to make a wheel measurement, and its planar part: delta 3, covariance 9, sigmas 2
 //    3  the information of one; 4 two of them composed
-//    5  a wheel factor: from, to, a measurement, two extrinsics (rotation 9, translation 3), a limit; 6 whether it is valid; 7 two composed
+//    5  a wheel factor: from, to, a measurement, two extrinsics (rotation 9, translation 3), a limit (whether there is one, 1, and which); 6 whether it is
+//       valid; 7 two composed
 //    8  a still factor as it is made, and with a gyro mean: from, to, span, densities 4, mean 3, seconds covered
-//    9  the information of one: from, to, span, whether there is a mean (1), mean 3, seconds covered, densities 4, sigmas 3, a limit
-//   10  two of them composed
-//   11  two limits joined, each whether there is one (1), and which
+//    9  the information of one: from, to, span, whether there is a mean (1), mean 3, seconds covered, densities 4, sigmas 3, a limit; 10 two composed
+//   11  two limits joined
+//
+// A line has what became of the call where it can be refused (0, or the refusal's number), and what it answers, laid out as it goes in; where there is no limit
+// or no mean, 0 alone. A line of 6 has 1 for valid; 9 has that before the call, and behind it the pose's 36 numbers, those of velocity and of both biases, and
+// whether there is a row for the gyro (1), its mean, and its information; 10 has nothing beside a refusal; 11 has whether the limit is valid behind it. A
+// kind 100 higher is the same, with what 01 holds within a tolerance held against the Rust's: of a measurement place, heading, covariance and each
+// sigma stand behind a tolerance, and so does the matrix of 3.
 use planar::PlanarMotion;
 use robust::Huber;
 use stationary::GyroMean;
@@ -31,6 +38,7 @@ fn main() {
         if kind == 0 {
             return;
         }
+        cases::begin_line(kind);
         ask(kind);
         cases::end_line();
         turns -= 1;
@@ -38,87 +46,75 @@ fn main() {
 }
 
 fn ask(kind: u64) {
-    match kind {
-        1 => cases::begin_group(),
+    match kind % 100 {
         2 => ask_measurements(),
-        3 => ask_information(),
-        4 => ask_composed(),
-        5 => ask_factor(),
+        3 => ask_information(kind),
+        4 => ask_composed(kind),
+        5 => print_factor(kind, read_factor()),
         6 => ask_factor_valid(),
-        7 => ask_factors_composed(),
+        7 => ask_factors_composed(kind),
         8 => ask_still_factor(),
         9 => ask_still_information(),
         10 => ask_still_composed(),
         11 => ask_limits_joined(),
-        _ => cases::write(b"no such kind"),
+        _ => cases::print_word(cases::read_word()),
     }
 }
 
-// ---- wheel measurements
+// ---- wheel measurements and factors
 
 fn ask_measurements() {
     let full = read_measurement();
     let delta = full.delta;
     let covariance = full.covariance;
-    let moved = WheelOdomMeasurement::from_motion(full.planar_motion());
     let plain = WheelOdomMeasurement::new(delta, covariance);
-    cases::write(b"new");
-    print_measurement(plain);
-    cases::write(b"\nwith sigmas");
-    print_measurement(plain.with_out_of_plane_sigmas(full.z_sigma, full.tilt_sigma));
-    cases::write(b"\nfrom motion");
-    print_measurement(moved);
-    cases::write(b"\nplanar motion");
-    print_motion(full.planar_motion());
+    print_measurement(2, plain);
+    print_measurement(
+        2,
+        plain.with_out_of_plane_sigmas(full.z_sigma, full.tilt_sigma),
+    );
+    print_measurement(2, WheelOdomMeasurement::from_motion(full.planar_motion()));
+    print_motion(2, full.planar_motion());
 }
 
-fn ask_information() {
+fn ask_information(kind: u64) {
     let m = read_measurement();
     let informed = m.information();
     let outcome = informed.outcome;
     let matrix = informed.matrix;
-    cases::write(b"information ");
-    match outcome {
-        Information::Given => cases::write(b"given"),
-        Information::NoInformation => cases::print_refused(9),
-        Information::AngleRange => cases::print_refused(8),
-        Information::NonFinite => cases::print_refused(2),
-    }
-    cases::print_numbers(&matrix);
+    cases::print_word(
+        match outcome {
+            Information::Given => 0,
+            Information::NoInformation => 9,
+            Information::AngleRange => 8,
+            Information::NonFinite => 2,
+        },
+    );
+    cases::print_near(kind, &matrix);
 }
 
-fn ask_composed() {
+fn ask_composed(kind: u64) {
     let first = read_measurement();
     let composed = first.compose(read_measurement());
     let outcome = composed.outcome;
-    cases::write(b"composed ");
     print_outcome(outcome);
-    print_measurement(composed.measurement);
-}
-
-// ---- wheel factors
-
-fn ask_factor() {
-    cases::write(b"factor");
-    print_factor(read_factor());
+    print_measurement(kind, composed.measurement);
 }
 
 fn ask_factor_valid() {
     let f = read_factor();
-    cases::write(b"factor ");
-    print_valid(f.is_valid());
+    cases::print_word(f.is_valid() as u64);
 }
 
-fn ask_factors_composed() {
+fn ask_factors_composed(kind: u64) {
     let first = read_factor();
     let composed = first.compose(read_factor());
     let outcome = composed.outcome;
-    cases::write(b"factors ");
     print_outcome(outcome);
-    print_factor(composed.factor);
+    print_factor(kind, composed.factor);
 }
 
-// ---- still factors
+// ---- still factors, and limits
 
 fn ask_still_factor() {
     let from_idx = cases::read_word() as usize;
@@ -127,9 +123,7 @@ fn ask_still_factor() {
     let calib = cases::read_calib();
     let gyro = read_gyro();
     let f = StationaryFactor::new(from_idx, to_idx, span_s, calib);
-    cases::write(b"still new");
     print_still(f);
-    cases::write(b"\nstill with gyro");
     print_still(f.with_gyro(gyro));
 }
 
@@ -137,40 +131,35 @@ fn ask_still_information() {
     let f = read_still();
     let informed = stationary_information::information(f);
     let outcome = informed.outcome;
-    cases::write(b"still ");
-    print_valid(f.is_valid());
-    cases::write(b" information ");
-    match outcome {
-        stationary_information::Outcome::Given => cases::write(b"given"),
-        stationary_information::Outcome::InvalidFactor => cases::print_refused(11),
-        stationary_information::Outcome::NonFinite => cases::print_refused(2),
-    }
+    cases::print_word(f.is_valid() as u64);
+    cases::print_word(
+        match outcome {
+            stationary_information::Outcome::Given => 0,
+            stationary_information::Outcome::InvalidFactor => 11,
+            stationary_information::Outcome::NonFinite => 2,
+        },
+    );
     print_info(informed.info);
 }
 
 fn ask_still_composed() {
     let first = read_still();
-    cases::write(b"still composed ");
     match first.compose(read_still()) {
         Joined::Factor(f) => {
-            cases::write(b"accepted");
+            cases::print_word(0);
             print_still(f);
         }
-        Joined::InvalidFactor => cases::print_refused(11),
-        Joined::NotJoined => cases::print_refused(10),
-        Joined::NonFinite => cases::print_refused(2),
+        Joined::InvalidFactor => cases::print_word(11),
+        Joined::NotJoined => cases::print_word(10),
+        Joined::NonFinite => cases::print_word(2),
     }
 }
-
-// ---- Huber limits
 
 fn ask_limits_joined() {
     let first = read_limit();
     let joined = first.joined(read_limit());
-    cases::write(b"joined");
     print_limit(joined);
-    cases::write(b" ");
-    print_valid(joined.is_valid());
+    cases::print_word(joined.is_valid() as u64);
 }
 
 // ---- what a record holds
@@ -215,7 +204,7 @@ fn read_factor() -> WheelOdomFactor {
 }
 
 fn read_limit() -> Huber {
-    let is_there = cases::is_word(1);
+    let is_there = cases::read_word() == 1;
     let limit = cases::read_f64();
     if is_there {
         Huber::Limit(limit)
@@ -232,7 +221,7 @@ fn read_gyro() -> StationaryGyro {
 }
 
 fn read_mean() -> GyroMean {
-    let is_there = cases::is_word(1);
+    let is_there = cases::read_word() == 1;
     let gyro = read_gyro();
     if is_there {
         GyroMean::Measured(gyro)
@@ -264,121 +253,107 @@ fn read_still() -> StationaryFactor {
     }
 }
 
-// ---- text
+// ---- what a line holds
 
 fn print_outcome(outcome: Outcome) {
-    match outcome {
-        Outcome::Accepted => cases::write(b"accepted"),
-        Outcome::NonFinite => cases::print_refused(2),
-        Outcome::AngleRange => cases::print_refused(8),
-        Outcome::NotJoined => cases::print_refused(10),
-    }
+    cases::print_word(
+        match outcome {
+            Outcome::Accepted => 0,
+            Outcome::NonFinite => 2,
+            Outcome::AngleRange => 8,
+            Outcome::NotJoined => 10,
+        },
+    );
 }
 
-fn print_valid(is_valid: bool) {
-    if !is_valid {
-        cases::write(b"in");
-    }
-    cases::write(b"valid");
-}
-
-fn print_motion(motion: PlanarMotion) {
-    let delta = motion.delta;
+fn print_motion(kind: u64, motion: PlanarMotion) {
+    let d = motion.delta;
     let covariance = motion.covariance;
-    cases::write(b" delta");
-    cases::print_three(delta);
-    cases::write(b" covariance");
-    cases::print_nine(covariance);
+    cases::print_near(kind, &[d[0], d[1]]);
+    cases::print_near(kind, &[d[2]]);
+    cases::print_near(kind, &covariance);
 }
 
-fn print_measurement(m: WheelOdomMeasurement) {
-    print_motion(m.planar_motion());
-    cases::write(b" sigmas");
-    cases::print_f64(m.z_sigma);
-    cases::print_f64(m.tilt_sigma);
+fn print_measurement(kind: u64, m: WheelOdomMeasurement) {
+    print_motion(kind, m.planar_motion());
+    cases::print_near(kind, &[m.z_sigma]);
+    cases::print_near(kind, &[m.tilt_sigma]);
 }
 
-fn print_factor(f: WheelOdomFactor) {
+fn print_factor(kind: u64, f: WheelOdomFactor) {
     let measurement = f.measurement;
     let from = f.t_cb_from;
     let to = f.t_cb_to;
     let limit = f.huber_chi2;
-    print_ends(f.from_idx, f.to_idx);
-    print_measurement(measurement);
+    cases::print_word(f.from_idx as u64);
+    cases::print_word(f.to_idx as u64);
+    print_measurement(kind, measurement);
     print_extrinsic(from);
     print_extrinsic(to);
     print_limit(limit);
 }
 
-fn print_ends(from: usize, to: usize) {
-    cases::write(b" from");
-    cases::print_bits(from as u64);
-    cases::write(b" to");
-    cases::print_bits(to as u64);
-}
-
 fn print_extrinsic(t: Extrinsic) {
     let rotation = t.rotation;
     let translation = t.translation;
-    cases::write(b" rotation");
-    cases::print_nine(rotation);
-    cases::write(b" translation");
-    cases::print_three(translation);
+    cases::print_numbers(&rotation);
+    cases::print_numbers(&translation);
 }
 
 fn print_limit(limit: Huber) {
     match limit {
-        Huber::Absent => cases::write(b" no limit"),
+        Huber::Absent => cases::print_word(0),
         Huber::Limit(k) => {
-            cases::write(b" limit");
-            cases::print_f64(k);
+            cases::print_word(1);
+            cases::print_numbers(&[k]);
         }
     }
 }
 
 fn print_still(f: StationaryFactor) {
-    let gyro = f.gyro;
-    let calib = f.calib;
+    let mean = f.gyro;
+    let c = f.calib;
     let limit = f.huber_chi2;
-    print_ends(f.from_idx, f.to_idx);
-    cases::write(b" span");
-    cases::print_f64(f.span_s);
-    print_mean(gyro);
-    cases::write(b" calibration");
-    cases::print_calib(calib);
-    cases::write(b" sigmas");
-    cases::print_f64(f.translation_sigma_m);
-    cases::print_f64(f.rotation_sigma_rad);
-    cases::print_f64(f.velocity_sigma_m_s);
+    cases::print_word(f.from_idx as u64);
+    cases::print_word(f.to_idx as u64);
+    cases::print_numbers(&[f.span_s]);
+    match mean {
+        GyroMean::Unmeasured => cases::print_word(0),
+        GyroMean::Measured(g) => print_gyro(g),
+    }
+    cases::print_numbers(
+        &[
+            c.gyro_noise,
+            c.accel_noise,
+            c.gyro_bias_noise,
+            c.accel_bias_noise,
+        ],
+    );
+    cases::print_numbers(
+        &[
+            f.translation_sigma_m,
+            f.rotation_sigma_rad,
+            f.velocity_sigma_m_s,
+        ],
+    );
     print_limit(limit);
 }
 
-fn print_mean(mean: GyroMean) {
-    match mean {
-        GyroMean::Unmeasured => cases::write(b" no mean"),
-        GyroMean::Measured(g) => print_gyro(b" mean", g),
-    }
-}
-
-fn print_gyro(name: &[u8], g: StationaryGyro) {
-    cases::write(name);
-    cases::print_three([g.x, g.y, g.z]);
-    cases::write(b" over");
-    cases::print_f64(g.covered_s);
+fn print_gyro(g: StationaryGyro) {
+    cases::print_word(1);
+    cases::print_numbers(&[g.x, g.y, g.z, g.covered_s]);
 }
 
 fn print_info(info: StationaryInfo) {
     let pose = info.pose;
     let row = info.gyro_mean;
-    cases::write(b" pose");
     cases::print_numbers(&pose);
-    cases::write(b" others");
-    cases::print_three([info.velocity, info.gyro_bias, info.accel_bias]);
+    cases::print_numbers(&[info.velocity, info.gyro_bias, info.accel_bias]);
     match row {
-        GyroRow::NoRow => cases::write(b" no row"),
+        GyroRow::NoRow => cases::print_word(0),
         GyroRow::Row(g, information) => {
-            print_gyro(b" row", g);
-            cases::print_f64(information);
+            print_gyro(g);
+            cases::print_numbers(&[information]);
         }
     }
 }

@@ -1,18 +1,21 @@
-// Walks through the wheel integrator by the records of standard input, and writes what becomes of each and the state after it, in bits. A
-// record is sixteen little-endian words of 64 bits: its kind, and what goes in. tools/wheel_cases.py makes the input and the expected output.
+// Walks through the wheel integrator by the records of standard input, and writes what becomes of each and the state after it, in bits. The crate `cases` says
+// what a record and a line are. tools/wheel_cases.py makes the input and the expected output, but for the Rust's answers at their end, which are
+// oracle/run --sample's. A record is its kind and:
 //
-//    1  begin a walk: radius, track, ticks per turn, the noise of a wheel's rate, the lateral noise; in the last word the number of the walk
-//    2  the same with the noise that is set beforehand
-//    3  integrate ticks: whether it is valid (1), the time, left and right; 4 rates
-//    5  restart
-//    6  hand in the drive and the noise, as in 1
-//    7  hand in the motion's three numbers, and dt
-//    8  hand in the nine of its covariance, behind three words
-//    9  hand in that nothing was read last; 10 ticks, as in 3; 11 rates
-//   12  the twist of two rates
-//   13  the rates of two differences of ticks over a time
-//   14  the Jacobian
-//   15  the stored motion composed with another: three numbers and the nine of a covariance
+//    1  a group of cases begins: its number
+//    2  begin a walk: a drive (radius, track, ticks per turn), the noise of a wheel's rate, the lateral noise; 3 a drive, with the noise that is set beforehand
+//    4  integrate ticks: whether it is valid (1), the time, left and right; 5 rates
+//    6  restart
+//    7  hand in a state, fit or not: a drive and a noise as in 2, the motion's three numbers and the nine of its covariance, dt, and the last reading, as in 4
+//       or 5 behind that number, or 0 for none
+//    8  the twist of two rates
+//    9  the rates of two differences of ticks over a time
+//   10  the Jacobian
+//   11  the stored motion composed with another: three numbers and the nine of a covariance
+//
+// A line of 2 to 6 has what became of the call (0, or the refusal's number and the times that it carries) and the state as in 7; one of 7 has the state; one of 8
+// to 11 has what became of the call and the answer, and beside a refused composition the motion that is blank by contract. A kind 100 higher is the same,
+// with motions held against the Rust's: place, heading and covariance each stand behind a tolerance.
 use drive::BodyTwist;
 use drive::DifferentialDrive;
 use drive::Jacobian;
@@ -24,8 +27,8 @@ use drive::WheelMeasurement;
 use drive::WheelNoise;
 use interval::Accumulated;
 use planar::PlanarMotion;
+use step_order::Outcome;
 use wheel::Last;
-use wheel::Outcome;
 use wheel::Settings;
 use wheel::WheelPreintegration;
 
@@ -39,8 +42,13 @@ fn main() {
         if kind == 0 {
             return;
         }
-        state = after_record(kind, state);
-        if kind < 12 {
+        cases::begin_line(kind);
+        let call = kind % 100;
+        state = after_record(call, state);
+        if (call < 2) | (7 < call) {
+            let settings = state.settings;
+            ask(kind, settings.drive, state.motion());
+        } else {
             print_state(kind, state);
         }
         cases::end_line();
@@ -48,200 +56,158 @@ fn main() {
     }
 }
 
-fn after_record(kind: u64, before: WheelPreintegration) -> WheelPreintegration {
-    match kind {
-        1 | 2 => begun(kind),
-        3 | 4 => stepped(kind, before),
-        5 => restarted(before),
-        6 => with_settings(kind, before),
-        7 => with_delta(before),
-        8 => with_covariance(before),
-        9 | 10 | 11 => with_last(kind, before),
-        _ => asked(kind, before),
+fn after_record(call: u64, before: WheelPreintegration) -> WheelPreintegration {
+    match call {
+        2 | 3 => begun(call),
+        4 | 5 => stepped(call, before),
+        6 => restarted(before),
+        7 => read_state(),
+        _ => before,
     }
 }
 
 // ---- the calls that give a state
 
-fn begun(kind: u64) -> WheelPreintegration {
-    let settings = read_settings(kind);
-    let drive = settings.drive;
-    let noise = settings.noise;
+fn begun(call: u64) -> WheelPreintegration {
+    let drive = read_drive();
+    let noise = if call == 2 {
+        read_noise()
+    } else {
+        WheelNoise::DEFAULT
+    };
     let made = WheelPreintegration::new(drive, noise);
     let outcome = made.outcome;
-    cases::print_count(b"walk ", cases::read_word());
-    cases::end_line();
-    print_outcome(outcome, b"made");
+    print_outcome(outcome);
     made.state
 }
 
-fn stepped(kind: u64, before: WheelPreintegration) -> WheelPreintegration {
-    let answer = before.integrate(read_measurement(kind));
+fn stepped(call: u64, before: WheelPreintegration) -> WheelPreintegration {
+    let answer = before.integrate(read_measurement(call));
     let outcome = answer.outcome;
-    print_outcome(outcome, b"accepted");
+    print_outcome(outcome);
     answer.state
 }
 
 fn restarted(before: WheelPreintegration) -> WheelPreintegration {
-    cases::skip(15);
-    cases::write(b"restarted");
+    cases::print_word(0);
     before.restart()
-}
-
-// ---- pieces of a state, handed in, fit or not
-
-fn with_settings(kind: u64, before: WheelPreintegration) -> WheelPreintegration {
-    let settings = read_settings(kind);
-    cases::skip(1);
-    print_given();
-    WheelPreintegration { settings, ..before }
-}
-
-fn with_delta(before: WheelPreintegration) -> WheelPreintegration {
-    let delta = cases::read_three();
-    let dt = cases::read_f64();
-    cases::skip(11);
-    print_given();
-    let kept = before.motion();
-    let motion = PlanarMotion { delta, ..kept };
-    let accumulated = Accumulated { motion, dt };
-    WheelPreintegration {
-        accumulated,
-        ..before
-    }
-}
-
-fn with_covariance(before: WheelPreintegration) -> WheelPreintegration {
-    let read = read_motion();
-    print_given();
-    let covariance = read.covariance;
-    let kept = before.motion();
-    let motion = PlanarMotion { covariance, ..kept };
-    let accumulated = Accumulated {
-        motion,
-        dt: before.dt(),
-    };
-    WheelPreintegration {
-        accumulated,
-        ..before
-    }
-}
-
-fn with_last(kind: u64, before: WheelPreintegration) -> WheelPreintegration {
-    let m = read_measurement(kind);
-    print_given();
-    let last = if kind == 9 {
-        Last::Nothing
-    } else {
-        Last::At(m)
-    };
-    WheelPreintegration { last, ..before }
 }
 
 // ---- what is asked, and leaves the state
 
-fn asked(kind: u64, state: WheelPreintegration) -> WheelPreintegration {
-    let settings = state.settings;
-    let drive = settings.drive;
-    match kind {
-        12 => ask_twist(drive),
-        13 => ask_rates(drive),
-        14 => ask_jacobian(drive),
-        15 => ask_composed(state.motion()),
-        _ => cases::write(b"no such kind"),
+fn ask(kind: u64, drive: DifferentialDrive, stored: PlanarMotion) {
+    match kind % 100 {
+        8 => ask_twist(drive),
+        9 => ask_rates(drive),
+        10 => ask_jacobian(drive),
+        11 => ask_composed(kind, stored),
+        _ => cases::print_word(cases::read_word()),
     }
-    state
 }
 
 fn ask_twist(drive: DifferentialDrive) {
     let left = cases::read_f64();
     let right = cases::read_f64();
-    cases::skip(13);
     match drive.twist(left, right) {
-        Twisted::Twist(v) => print_twist(v),
+        Twisted::Twist(v) => {
+            cases::print_word(0);
+            print_twist(v);
+        }
         Twisted::Refused(why) => print_refusal(why),
     }
 }
 
 fn ask_rates(drive: DifferentialDrive) {
-    let left = cases::read_i64();
-    let right = cases::read_i64();
-    let dt = cases::read_f64();
-    cases::skip(12);
-    match drive.wheel_rates_from_ticks(left, right, dt) {
+    let left = read_tick();
+    let right = read_tick();
+    match drive.wheel_rates_from_ticks(left, right, cases::read_f64()) {
         Rated::Rates(w) => {
-            cases::write(b"gives");
-            cases::print_f64(w.left);
-            cases::print_f64(w.right);
+            cases::print_word(0);
+            cases::print_numbers(&[w.left, w.right]);
         }
         Rated::Refused(why) => print_refusal(why),
     }
 }
 
 fn ask_jacobian(drive: DifferentialDrive) {
-    cases::skip(15);
     match drive.twist_jacobian() {
         Jacobian::Columns(c) => {
             let left = c.left;
             let right = c.right;
+            cases::print_word(0);
             print_twist(left);
-            cases::print_three([right.vx, right.vy, right.wz]);
+            print_twist(right);
         }
         Jacobian::Refused(why) => print_refusal(why),
     }
 }
 
-// The stored motion, then the record's. Beside a refusal stands the motion that is blank by contract.
-fn ask_composed(stored: PlanarMotion) {
+// The stored motion, then the record's.
+fn ask_composed(kind: u64, stored: PlanarMotion) {
     let composed = stored.compose(read_motion());
     let outcome = composed.outcome;
-    match outcome {
-        planar::Outcome::Accepted => cases::write(b"gives"),
-        planar::Outcome::NonFinite => cases::print_refused(2),
-        planar::Outcome::AngleRange => cases::print_refused(8),
-    }
-    print_motion(composed.motion);
+    cases::print_word(
+        match outcome {
+            planar::Outcome::Accepted => 0,
+            planar::Outcome::NonFinite => 2,
+            planar::Outcome::AngleRange => 8,
+        },
+    );
+    print_motion(kind, composed.motion);
 }
 
-// ---- what a record holds behind its kind: fifteen words, of which the last ones may say nothing
+// ---- what a record holds behind its kind
 
-// All but the last word, which is the number of a walk.
-fn read_settings(kind: u64) -> Settings {
+fn read_drive() -> DifferentialDrive {
     let wheel_radius = cases::read_f64();
     let track_width = cases::read_f64();
     let ticks_per_revolution = cases::read_f64();
-    let wheel_rate = cases::read_f64();
-    let lateral_velocity = cases::read_f64();
-    cases::skip(9);
-    let noise = if kind == 2 {
-        WheelNoise::DEFAULT
-    } else {
-        WheelNoise {
-            wheel_rate,
-            lateral_velocity,
-        }
-    };
-    Settings {
-        drive: DifferentialDrive {
-            wheel_radius,
-            track_width,
-            ticks_per_revolution,
-        },
-        noise,
+    DifferentialDrive {
+        wheel_radius,
+        track_width,
+        ticks_per_revolution,
     }
 }
 
-fn read_measurement(kind: u64) -> WheelMeasurement {
-    let valid = cases::is_word(1);
+fn read_noise() -> WheelNoise {
+    let wheel_rate = cases::read_f64();
+    let lateral_velocity = cases::read_f64();
+    WheelNoise {
+        wheel_rate,
+        lateral_velocity,
+    }
+}
+
+fn read_motion() -> PlanarMotion {
+    let delta = cases::read_three();
+    let covariance = cases::read_nine();
+    PlanarMotion { delta, covariance }
+}
+
+fn read_state() -> WheelPreintegration {
+    let drive = read_drive();
+    let noise = read_noise();
+    let motion = read_motion();
+    let dt = cases::read_f64();
+    let last = read_last(cases::read_word());
+    WheelPreintegration {
+        settings: Settings { drive, noise },
+        accumulated: Accumulated { motion, dt },
+        last,
+    }
+}
+
+fn read_last(call: u64) -> Last {
+    if call == 0 {
+        return Last::Nothing;
+    }
+    Last::At(read_measurement(call))
+}
+
+fn read_measurement(call: u64) -> WheelMeasurement {
+    let valid = cases::read_word() == 1;
     let timestamp = cases::read_f64();
-    let left = cases::read_word();
-    let right = cases::read_word();
-    cases::skip(11);
-    let reading = if (kind == 3) | (kind == 10) {
-        Reading::Ticks(number::tick::of_bits(left), number::tick::of_bits(right))
-    } else {
-        Reading::AngularVelocity(words::of_bits(left), words::of_bits(right))
-    };
+    let reading = read_reading(call);
     WheelMeasurement {
         timestamp,
         reading,
@@ -249,101 +215,89 @@ fn read_measurement(kind: u64) -> WheelMeasurement {
     }
 }
 
-fn read_motion() -> PlanarMotion {
-    let delta = cases::read_three();
-    let covariance = cases::read_nine();
-    cases::skip(3);
-    PlanarMotion { delta, covariance }
+fn read_reading(call: u64) -> Reading {
+    if call == 4 {
+        let left = read_tick();
+        return Reading::Ticks(left, read_tick());
+    }
+    let left = cases::read_f64();
+    Reading::AngularVelocity(left, cases::read_f64())
 }
 
-// ---- text
-
-fn print_given() {
-    cases::write(b"given");
+fn read_tick() -> i64 {
+    number::tick::of_bits(cases::read_word())
 }
 
-fn print_outcome(outcome: Outcome, accepted: &[u8]) {
+// ---- what a line holds
+
+fn print_outcome(outcome: Outcome) {
     match outcome {
-        Outcome::Accepted => cases::write(accepted),
+        Outcome::Accepted => cases::print_word(0),
         Outcome::Refused(why) => print_refusal(why),
     }
 }
 
-// The number of a refusal, and what it carries.
 fn print_refusal(why: Refusal) {
-    cases::print_refused(why.number());
+    cases::print_word(why.number());
     match why {
-        Refusal::OutOfOrder(time, last) => {
-            cases::print_f64(time);
-            cases::print_f64(last);
-        }
-        Refusal::Duplicate(time) => cases::print_f64(time),
+        Refusal::OutOfOrder(time, last) => cases::print_numbers(&[time, last]),
+        Refusal::Duplicate(time) => cases::print_numbers(&[time]),
         _ => (),
     }
 }
 
-// The drive and the noise are written where they may have changed.
 fn print_state(kind: u64, state: WheelPreintegration) {
     let settings = state.settings;
     let last = state.last;
-    if (kind < 3) | (kind == 6) {
-        print_settings(settings);
-    }
-    cases::write(b" dt");
-    cases::print_f64(state.dt());
-    print_motion(state.motion());
+    print_settings(settings);
+    print_motion(kind, state.motion());
+    cases::print_numbers(&[state.dt()]);
     print_last(last);
 }
 
 fn print_settings(settings: Settings) {
-    let drive = settings.drive;
-    let noise = settings.noise;
-    cases::write(b" drive");
-    cases::print_f64(drive.wheel_radius);
-    cases::print_f64(drive.track_width);
-    cases::print_f64(drive.ticks_per_revolution);
-    cases::write(b" noise");
-    cases::print_f64(noise.wheel_rate);
-    cases::print_f64(noise.lateral_velocity);
+    let d = settings.drive;
+    let n = settings.noise;
+    cases::print_numbers(&[d.wheel_radius, d.track_width, d.ticks_per_revolution]);
+    cases::print_numbers(&[n.wheel_rate, n.lateral_velocity]);
 }
 
-fn print_motion(motion: PlanarMotion) {
-    let delta = motion.delta;
+fn print_motion(kind: u64, motion: PlanarMotion) {
+    let d = motion.delta;
     let covariance = motion.covariance;
-    cases::write(b" motion");
-    cases::print_three(delta);
-    cases::write(b" covariance");
-    cases::print_nine(covariance);
+    cases::print_near(kind, &[d[0], d[1]]);
+    cases::print_near(kind, &[d[2]]);
+    cases::print_near(kind, &covariance);
 }
 
 fn print_last(last: Last) {
-    cases::write(b" last");
     match last {
-        Last::Nothing => cases::write(b" none"),
+        Last::Nothing => cases::print_word(0),
         Last::At(m) => print_measurement(m),
     }
 }
 
 fn print_measurement(m: WheelMeasurement) {
     let reading = m.reading;
-    if !m.valid {
-        cases::write(b" invalid");
-    }
     match reading {
         Reading::Ticks(left, right) => {
-            cases::write(b" ticks");
-            cases::print_f64(m.timestamp);
-            cases::print_bits(number::tick::bits_of(left));
-            cases::print_bits(number::tick::bits_of(right));
+            print_stamp(4, m);
+            cases::print_word(number::tick::bits_of(left));
+            cases::print_word(number::tick::bits_of(right));
         }
         Reading::AngularVelocity(left, right) => {
-            cases::write(b" rates");
-            cases::print_three([m.timestamp, left, right]);
+            print_stamp(5, m);
+            cases::print_numbers(&[left, right]);
         }
     }
 }
 
+fn print_stamp(kind: u64, m: WheelMeasurement) {
+    cases::print_word(kind);
+    cases::print_word(m.valid as u64);
+    cases::print_numbers(&[m.timestamp]);
+}
+
 fn print_twist(v: BodyTwist) {
-    cases::write(b"gives");
-    cases::print_three([v.vx, v.vy, v.wz]);
+    cases::print_numbers(&[v.vx, v.vy, v.wz]);
 }

@@ -4,16 +4,16 @@ mod factors;
 mod inertial;
 mod wheel;
 
-use crate::ours::{Line, Ours, Records};
+use crate::call::{Call, records};
+use crate::ours::{Line, Ours, words};
 
-/// Where, the input and the Rust's answer; ours is read from the last of the lines that the records give.
+/// Where, the input and the Rust's answer; ours is read from the line of the last call.
 struct Row {
     place: &'static str,
     input: String,
     rust: String,
-    records: Records,
-    lines: usize,
-    read: fn(&Line) -> String,
+    calls: Vec<Call>,
+    read: fn(&mut Line) -> String,
 }
 
 pub fn print(ours: &Ours) {
@@ -28,16 +28,21 @@ pub fn print(ours: &Ours) {
 }
 
 fn table(ours: &Ours, program: &str, rows: Vec<Row>) {
-    let all = Records(rows.iter().flat_map(|r| r.records.0.clone()).collect());
-    let lines = ours.lines(program, &all, rows.iter().map(|r| r.lines).sum());
-    let mut at = 0;
+    let mut lines = ours.lines(program, &records(rows.iter().flat_map(|r| &r.calls)));
     for row in rows {
-        at += row.lines;
-        let line = Line::new(&lines[at - 1]);
-        let refusal = line.refusal();
-        let answer = if refusal[0] == 0 { (row.read)(&line) } else { format!("refused {}", refusal[0]) };
+        let mut line = lines.nth(row.calls.len() - 1).expect("a line for each");
+        let answer = (row.read)(&mut line);
         let answer = if row.rust == answer || row.rust.starts_with(&format!("{answer}, ")) { "the same".into() } else { answer };
         println!("| {} | {} | {answer} | {} |", row.place, row.rust, row.input);
+    }
+}
+
+/// The refusal that comes next in a line, or what stands behind a 0.
+fn unless_refused(line: &mut Line, read: fn(&mut Line) -> String) -> String {
+    match line.take(1)[..] {
+        [0] => read(line),
+        [number] => format!("refused {number}"),
+        _ => panic!("a line that ends too early"),
     }
 }
 
@@ -53,5 +58,5 @@ fn number(x: f64) -> String {
 }
 
 fn listed(xs: &[f64]) -> String {
-    numbers(&xs.iter().map(|x| x.to_bits()).collect::<Vec<_>>())
+    numbers(&words(xs))
 }

@@ -1,10 +1,12 @@
 //! Wheel factors and still factors.
+use crate::call::{Call, Part, records};
+use crate::inertial::calib_words;
 use crate::mapping::stationary::{StationaryFactor, StationaryGyro};
 use crate::mapping::wheel_odom::{WheelOdomFactor, WheelOdomMeasurement};
-use crate::ours::{Line, Ours, Records, floats};
+use crate::ours::{Ours, bits, words};
 use crate::random::Random;
 use crate::report::{Group, largest};
-use crate::wheel::{motion, term_sizes};
+use crate::wheel::{motion, motion_parts, motion_words, term_sizes};
 use kornia_3d::pose::Pose3d;
 use kornia_algebra::{Mat3F64, Vec3F64};
 use kornia_sensors::imu::ImuCalib;
@@ -56,38 +58,40 @@ fn factor(random: &mut Random) -> WheelOdomFactor {
     WheelOdomFactor::new(ends[0], ends[1], m, extrinsic(random), extrinsic(random), limit(random))
 }
 
-// ---- records
+// ---- what records and lines hold
 
-fn rows_to_columns(c: &[[f64; 3]; 3]) -> [f64; 9] {
-    std::array::from_fn(|i| c[i % 3][i / 3])
+fn measurement_words(m: &WheelOdomMeasurement) -> Vec<u64> {
+    let columns: [f64; 9] = std::array::from_fn(|i| m.covariance[i % 3][i / 3]);
+    [words(&m.delta), words(&columns), words(&[m.z_sigma, m.tilt_sigma])].concat()
 }
 
-pub fn put_measurement(r: &mut Records, m: &WheelOdomMeasurement) {
-    r.numbers(&m.delta);
-    r.numbers(&rows_to_columns(&m.covariance));
-    r.numbers(&[m.z_sigma, m.tilt_sigma]);
+fn extrinsic_words(t: &Pose3d) -> Vec<u64> {
+    [words(&t.rotation.to_cols_array()), words(&t.translation.to_array())].concat()
 }
 
-fn put_extrinsic(r: &mut Records, t: &Pose3d) {
-    r.numbers(&t.rotation.to_cols_array());
-    r.numbers(&t.translation.to_array());
+/// Whether there are numbers (1), and which. Where there are none a record has zeros, so many, and a line nothing.
+fn optional(xs: &[f64], zeros: usize) -> Vec<u64> {
+    if xs.is_empty() { vec![0; 1 + zeros] } else { [vec![1], words(xs)].concat() }
 }
 
-pub fn put_limit(r: &mut Records, limit: Option<f64>) {
-    r.word(u64::from(limit.is_some()));
-    r.numbers(&[limit.unwrap_or(0.0)]);
+fn factor_words(f: &WheelOdomFactor) -> Vec<u64> {
+    [
+        vec![f.from_idx as u64, f.to_idx as u64],
+        measurement_words(&f.measurement),
+        extrinsic_words(&f.t_cb_from),
+        extrinsic_words(&f.t_cb_to),
+        optional(f.huber_chi2.as_slice(), 1),
+    ]
+    .concat()
 }
 
-pub fn put_factor(r: &mut Records, f: &WheelOdomFactor) {
-    r.word(f.from_idx as u64);
-    r.word(f.to_idx as u64);
-    put_measurement(r, &f.measurement);
-    put_extrinsic(r, &f.t_cb_from);
-    put_extrinsic(r, &f.t_cb_to);
-    put_limit(r, f.huber_chi2);
+/// A measurement within the sizes of place, heading and covariance, and each sigma within its own.
+fn measurement_parts(m: &WheelOdomMeasurement, sizes: (f64, f64, f64)) -> Vec<Part> {
+    let sigmas = [m.z_sigma, m.tilt_sigma].map(|x| Part::Near("sigmas", vec![x], x));
+    motion_parts(&m.planar_motion(), sizes).into_iter().chain(sigmas).collect()
 }
 
-// ---- judging
+// ---- wheel factors
 
 /// "no determinant smaller in size than 1e-6 of the largest of its six products"
 pub fn has_clear_determinant(c: &[[f64; 3]; 3]) -> bool {
@@ -102,39 +106,46 @@ pub fn has_clear_determinant(c: &[[f64; 3]; 3]) -> bool {
 const DETERMINANT: &str = "determinant below 1e-6 of its largest product";
 
 /// The planar block of a 6×6 information, and its other numbers.
-pub fn split(m: &[f64; 36]) -> (Vec<f64>, Vec<f64>) {
+fn split(m: &[f64]) -> (Vec<f64>, Vec<f64>) {
     let axes = [0, 1, 5];
     let is_planar = |i: &usize| axes.contains(&(i / 6)) && axes.contains(&(i % 6));
     let (planar, others): (Vec<usize>, Vec<usize>) = (0..36).partition(is_planar);
     (planar.iter().map(|i| m[*i]).collect(), others.iter().map(|i| m[*i]).collect())
 }
 
+/// A measurement's information, column by column.
+fn matrix(m: &WheelOdomMeasurement) -> Option<[f64; 36]> {
+    m.information().map(|info| std::array::from_fn(|i| info[i % 6][i / 6]))
+}
+
+/// The information, all of it within the size of the planar block; where there is none, blank by contract.
+pub fn informed(m: &WheelOdomMeasurement) -> Call {
+    let said = Part::Same("none, or 9", vec![if matrix(m).is_some() { 0 } else { 9 }]);
+    let numbers = matrix(m).unwrap_or([0.0; 36]);
+    let near = Part::Near("matrix", numbers.to_vec(), largest(&split(&numbers).0));
+    Call { kind: 3, words: measurement_words(m), answer: vec![said, near] }
+}
+
 pub fn information(ours: &Ours, random: &mut Random) -> Group {
-    let mut group = Group::new("wheel information", "");
+    let mut group = Group::new("wheel information", "with an answer");
     let mut all = vec![];
-    let mut records = Records::default();
     while all.len() < 10_000 {
         let m = measurement(random);
-        if !has_clear_determinant(&m.covariance) {
+        if has_clear_determinant(&m.covariance) {
+            all.push(m);
+        } else {
             group.leave_out(DETERMINANT);
-            continue;
         }
-        records.word(3);
-        put_measurement(&mut records, &m);
-        all.push(m);
     }
-    for (m, text) in all.iter().zip(&ours.lines("factor_cases", &records, all.len())) {
-        let line = Line::new(text);
-        let rust = m.information();
-        let said = line.refusal()[0];
-        group.same("none, or 9", said, if rust.is_some() { 0 } else { 9 });
-        if let Some(info) = rust {
-            let numbers: [f64; 36] = floats(&line.after("given", 36));
-            let (planar, others) = split(&numbers);
-            let (rust_planar, rust_others) = split(&std::array::from_fn(|i| info[i % 6][i / 6]));
+    let calls: Vec<_> = all.iter().map(informed).collect();
+    let lines = ours.lines("factor_cases", &records(&calls));
+    for ((m, call), mut line) in all.iter().zip(&calls).zip(lines) {
+        group.hold(&mut line, &call.answer[..1]);
+        if let Some(rust) = matrix(m) {
+            let (planar, others) = split(&line.floats(36));
+            let (rust_planar, rust_others) = split(&rust);
             group.near("planar block", &planar, &rust_planar, largest(&rust_planar));
             group.near("the other numbers", &others, &rust_others, largest(&rust_others));
-            group.parts.0 = "with an answer";
             group.parts.1 += 1;
         }
         group.cases += 1;
@@ -142,81 +153,60 @@ pub fn information(ours: &Ours, random: &mut Random) -> Group {
     group
 }
 
+pub fn is_valid(f: &WheelOdomFactor) -> Call {
+    Call { kind: 6, words: factor_words(f), answer: vec![Part::Same("is_valid", vec![u64::from(f.is_valid())])] }
+}
+
 pub fn validity(ours: &Ours, random: &mut Random) -> Group {
     let mut group = Group::new("wheel factors: is_valid", "valid");
-    let mut all = vec![];
-    let mut records = Records::default();
-    while all.len() < 5_000 {
+    let mut cases = vec![];
+    while cases.len() < 5_000 {
         let f = factor(random);
-        if !has_clear_determinant(&f.measurement.covariance) {
+        if has_clear_determinant(&f.measurement.covariance) {
+            group.parts.1 += u64::from(f.is_valid());
+            cases.push([is_valid(&f)]);
+        } else {
             group.leave_out(DETERMINANT);
-            continue;
         }
-        records.word(6);
-        put_factor(&mut records, &f);
-        all.push(f);
     }
-    for (f, text) in all.iter().zip(&ours.lines("factor_cases", &records, all.len())) {
-        group.same("is_valid", Line::new(text).has("valid"), f.is_valid());
-        group.parts.1 += u64::from(f.is_valid());
-        group.cases += 1;
-    }
+    group.ask(ours, "factor_cases", &cases);
     group
 }
 
-/// The limit that a line tells: its bits, or none.
-fn limit_of(line: &Line) -> Vec<u64> {
-    if line.has("no") { vec![] } else { line.after("limit", 1) }
+/// Two measurements composed.
+pub fn measurements(a: &WheelOdomMeasurement, b: &WheelOdomMeasurement) -> Call {
+    let mut answer = vec![Part::Kept(vec![0])];
+    answer.extend(measurement_parts(&a.compose(b), term_sizes(&a.planar_motion(), &b.planar_motion())));
+    Call { kind: 4, words: [measurement_words(a), measurement_words(b)].concat(), answer }
 }
 
-fn limit_bits(limit: Option<f64>) -> Vec<u64> {
-    limit.iter().map(|x| bits(*x)).collect()
-}
-
-/// The bits of a number; of any NaN, those of one.
-pub fn bits(x: f64) -> u64 {
-    if x.is_nan() { f64::NAN.to_bits() } else { x.to_bits() }
+/// Two factors composed. Where they do not meet, what ours has beside the refusal is not looked at.
+fn factors(a: &WheelOdomFactor, b: &WheelOdomFactor) -> Call {
+    let rust = a.compose(b);
+    let mut answer = vec![Part::Same("none, or 10", vec![if rust.is_some() { 0 } else { 10 }])];
+    if let Some(f) = rust {
+        answer.push(Part::Same("ends", vec![f.from_idx as u64, f.to_idx as u64]));
+        answer.extend(measurement_parts(&f.measurement, term_sizes(&a.measurement.planar_motion(), &b.measurement.planar_motion())));
+        answer.push(Part::Same("extrinsics", extrinsic_words(&f.t_cb_from)));
+        answer.push(Part::Same("extrinsics", extrinsic_words(&f.t_cb_to)));
+        answer.push(Part::Same("Huber limit", optional(f.huber_chi2.as_slice(), 0)));
+    }
+    Call { kind: 7, words: [factor_words(a), factor_words(b)].concat(), answer }
 }
 
 pub fn composed(ours: &Ours, random: &mut Random) -> Group {
     let mut group = Group::new("wheel factors: compose, and composed sigmas", "joined");
-    let fit = |random: &mut Random| {
+    let mut fit = || {
         let mut f = factor(random);
         let sigmas = [random.positive(), random.positive()];
         f.measurement = f.measurement.with_out_of_plane_sigmas(sigmas[0], sigmas[1]);
         f
     };
-    let pairs: Vec<_> = (0..10_000).map(|_| (fit(random), fit(random))).collect();
-    let mut records = Records::default();
-    for (a, b) in &pairs {
-        records.word(7);
-        put_factor(&mut records, a);
-        put_factor(&mut records, b);
-    }
-    for ((a, b), text) in pairs.iter().zip(&ours.lines("factor_cases", &records, pairs.len())) {
+    let calls: Vec<_> = (0..10_000).map(|_| factors(&fit(), &fit())).collect();
+    for (call, mut line) in calls.iter().zip(ours.lines("factor_cases", &records(&calls))) {
         group.cases += 1;
-        let line = Line::new(text);
-        let rust = a.compose(b);
-        group.same("none, or 10", line.refusal()[0], if rust.is_some() { 0 } else { 10 });
-        let Some(f) = rust else { continue };
-        group.parts.1 += 1;
-        let m = &f.measurement;
-        let (place, heading, size) = term_sizes(&a.measurement.planar_motion(), &b.measurement.planar_motion());
-        let delta: [f64; 3] = floats(&line.after("delta", 3));
-        let covariance: [f64; 9] = floats(&line.after("covariance", 9));
-        let sigmas: [f64; 2] = floats(&line.after("sigmas", 2));
-        group.near("x and y", &delta[..2], &m.delta[..2], place);
-        group.near_heading(delta[2], m.delta[2], heading);
-        group.near("covariance", &covariance, &rows_to_columns(&m.covariance), size);
-        group.near("sigmas", &sigmas[..1], &[m.z_sigma], m.z_sigma);
-        group.near("sigmas", &sigmas[1..], &[m.tilt_sigma], m.tilt_sigma);
-        group.same("ends", [line.after("from", 1), line.after("to", 1)].concat(), vec![f.from_idx as u64, f.to_idx as u64]);
-        for (nth, t) in [f.t_cb_from, f.t_cb_to].iter().enumerate() {
-            let kept = [line.after_nth("rotation", nth, 9), line.after_nth("translation", nth, 3)].concat();
-            let rust = [t.rotation.to_cols_array().to_vec(), t.translation.to_array().to_vec()].concat();
-            group.same("extrinsics", kept, rust.iter().map(|x| bits(*x)).collect());
-        }
-        group.same("Huber limit", limit_of(&line), limit_bits(f.huber_chi2));
+        group.parts.1 += u64::from(call.answer.len() > 1);
+        group.hold(&mut line, &call.answer);
     }
     group
 }
@@ -235,22 +225,20 @@ pub fn limits(ours: &Ours, random: &mut Random) -> Group {
         }
         !is_zeros
     });
-    let mut records = Records::default();
-    for (a, b) in &pairs {
-        records.word(11);
-        put_limit(&mut records, *a);
-        put_limit(&mut records, *b);
-    }
+    let cases: Vec<_> = pairs.iter().map(|(a, b)| [limits_joined(*a, *b)]).collect();
+    group.ask(ours, "factor_cases", &cases);
+    group
+}
+
+pub fn limits_joined(a: Option<f64>, b: Option<f64>) -> Call {
     let plain = WheelOdomMeasurement::new([0.0; 3], [[0.0; 3]; 3]);
     let with = |limit| WheelOdomFactor::new(0, 0, plain, Pose3d::IDENTITY, Pose3d::IDENTITY, limit);
-    for ((a, b), text) in pairs.iter().zip(&ours.lines("factor_cases", &records, pairs.len())) {
-        let line = Line::new(text);
-        let rust = with(*a).compose(&with(*b)).expect("they meet");
-        group.same("limit", limit_of(&line), limit_bits(rust.huber_chi2));
-        group.same("whether it is valid", line.has("valid"), rust.huber_valid());
-        group.cases += 1;
-    }
-    group
+    let rust = with(a).compose(&with(b)).expect("they meet");
+    let answer = vec![
+        Part::Same("limit", optional(rust.huber_chi2.as_slice(), 0)),
+        Part::Same("whether it is valid", vec![u64::from(rust.huber_valid())]),
+    ];
+    Call { kind: 11, words: [optional(a.as_slice(), 1), optional(b.as_slice(), 1)].concat(), answer }
 }
 
 // ---- still factors
@@ -282,44 +270,67 @@ pub fn still(random: &mut Random) -> StationaryFactor {
     f
 }
 
-pub fn put_still(r: &mut Records, f: &StationaryFactor) {
-    r.word(f.from_idx as u64);
-    r.word(f.to_idx as u64);
-    r.numbers(&[f.span_s]);
-    r.word(u64::from(f.gyro.is_some()));
-    let g = f.gyro.unwrap_or(StationaryGyro::new(Vec3F64::ZERO, 0.0));
-    r.numbers(&g.mean.to_array());
-    r.numbers(&[g.covered_s]);
-    let c = &f.calib;
-    r.numbers(&[c.gyro_noise, c.accel_noise, c.gyro_bias_noise, c.accel_bias_noise]);
-    r.numbers(&[f.translation_sigma_m, f.rotation_sigma_rad, f.velocity_sigma_m_s]);
-    put_limit(r, f.huber_chi2);
+fn gyro_numbers(g: &StationaryGyro) -> [f64; 4] {
+    [g.mean.x, g.mean.y, g.mean.z, g.covered_s]
 }
 
-/// A still factor in the words of factor_cases.
-fn still_words(f: &StationaryFactor) -> String {
-    let mean = f.gyro.map_or(" no mean".into(), |g| format!(" mean{} over{}", hex(&g.mean.to_array()), hex(&[g.covered_s])));
-    let c = &f.calib;
-    format!(
-        " from {:016x} to {:016x} span{}{mean} calibration{} sigmas{}{}",
-        f.from_idx,
-        f.to_idx,
-        hex(&[f.span_s]),
-        hex(&[c.gyro_noise, c.accel_noise, c.gyro_bias_noise, c.accel_bias_noise]),
-        hex(&[f.translation_sigma_m, f.rotation_sigma_rad, f.velocity_sigma_m_s]),
-        f.huber_chi2.map_or(" no limit".into(), |k| format!(" limit{}", hex(&[k]))),
-    )
+/// A still factor, with so many zeros where there is no mean and no limit.
+fn still_with(f: &StationaryFactor, zeros: [usize; 2]) -> Vec<u64> {
+    let mean = f.gyro.as_ref().map(gyro_numbers);
+    [
+        vec![f.from_idx as u64, f.to_idx as u64, bits(f.span_s)],
+        optional(mean.as_slice().as_flattened(), zeros[0]),
+        calib_words(&f.calib),
+        words(&[f.translation_sigma_m, f.rotation_sigma_rad, f.velocity_sigma_m_s]),
+        optional(f.huber_chi2.as_slice(), zeros[1]),
+    ]
+    .concat()
 }
 
-/// A still factor's information in the words of factor_cases.
-fn still_info_words(f: &StationaryFactor) -> String {
+/// As a record has it.
+fn still_words(f: &StationaryFactor) -> Vec<u64> {
+    still_with(f, [4, 1])
+}
+
+/// As a line has it.
+fn shown(f: &StationaryFactor) -> Vec<u64> {
+    still_with(f, [0, 0])
+}
+
+fn info_words(f: &StationaryFactor) -> Vec<u64> {
     let info = f.information();
-    let pose: Vec<f64> = (0..36).map(|i| info.pose[i % 6][i / 6]).collect();
-    let row = info.gyro_mean.map_or(" no row".into(), |(mean, g)| {
+    let pose: [f64; 36] = std::array::from_fn(|i| info.pose[i % 6][i / 6]);
+    let row = info.gyro_mean.map_or(vec![], |(mean, information)| {
         let covered = f.gyro.expect("a mean").covered_s;
-        format!(" row{} over{}{}", hex(&mean.to_array()), hex(&[covered]), hex(&[g]))
+        vec![mean.x, mean.y, mean.z, covered, information]
     });
-    format!(" pose{} others{}{row}", hex(&pose), hex(&[info.velocity, info.gyro_bias, info.accel_bias]))
+    [words(&pose), words(&[info.velocity, info.gyro_bias, info.accel_bias]), optional(&row, 0)].concat()
+}
+
+/// The added 11, which is ours, where a factor is invalid.
+fn invalid() -> Part {
+    Part::Same("11 of an invalid factor", vec![11])
+}
+
+/// Whether a factor is valid, and its information, which is blank by contract if it is not.
+pub fn still_information(f: &StationaryFactor) -> Call {
+    let mut answer = vec![Part::Same("is_valid", vec![u64::from(f.is_valid())])];
+    if f.is_valid() {
+        answer.push(Part::Same("information", [vec![0], info_words(f)].concat()));
+    } else {
+        answer.extend([invalid(), Part::Kept(vec![0; 40])]);
+    }
+    Call { kind: 9, words: still_words(f), answer }
+}
+
+/// Two factors composed.
+pub fn still_joined(a: &StationaryFactor, b: &StationaryFactor) -> Call {
+    let answer = if a.is_valid() && b.is_valid() {
+        Part::Same("compose", a.compose(b).map_or(vec![10], |f| [vec![0], shown(&f)].concat()))
+    } else {
+        invalid()
+    };
+    Call { kind: 10, words: [still_words(a), still_words(b)].concat(), answer: vec![answer] }
 }
 
 pub fn stills(ours: &Ours, random: &mut Random) -> Group {
@@ -333,77 +344,52 @@ pub fn stills(ours: &Ours, random: &mut Random) -> Group {
             (a, b)
         })
         .collect();
-    let mut records = Records::default();
     for (a, b) in &pairs {
-        records.word(9);
-        put_still(&mut records, a);
-        records.word(10);
-        put_still(&mut records, a);
-        put_still(&mut records, b);
-    }
-    for ((a, b), two) in pairs.iter().zip(ours.lines("factor_cases", &records, 2 * pairs.len()).chunks(2)) {
-        group.cases += 1;
-        let valid = if a.is_valid() { "still valid information" } else { "still invalid information" };
-        group.same("is_valid", two[0].starts_with(valid), true);
-        if a.is_valid() {
-            group.same("information", two[0].clone(), format!("still valid information given{}", still_info_words(a)));
-        } else {
-            group.same("11 of an invalid factor", Line::new(&two[0]).refusal()[0], 11);
+        if !a.is_valid() {
             group.leave_out("information of an invalid factor, the added 11");
         }
         if !(a.is_valid() && b.is_valid()) {
-            group.same("11 of an invalid factor", Line::new(&two[1]).refusal()[0], 11);
             group.leave_out("compose with an invalid factor, the added 11");
-            continue;
+        } else if a.compose(b).is_some() {
+            group.parts.1 += 1;
         }
-        let rust = a.compose(b).map_or("refused 10".into(), |f| format!("accepted{}", still_words(&f)));
-        group.parts.1 += u64::from(a.compose(b).is_some());
-        group.same("compose", two[1].clone(), format!("still composed {rust}"));
     }
+    let cases: Vec<_> = pairs.iter().map(|(a, b)| [still_information(a), still_joined(a, b)]).collect();
+    group.ask(ours, "factor_cases", &cases);
     group
 }
 
 // ---- what constructors and defaults give
 
-fn hex(xs: &[f64]) -> String {
-    xs.iter().map(|x| format!(" {:016x}", bits(*x))).collect()
+/// A measurement as a line has it.
+fn made(m: &WheelOdomMeasurement) -> Vec<u64> {
+    [motion_words(&m.planar_motion()), words(&[m.z_sigma, m.tilt_sigma])].concat()
 }
 
-/// A measurement in the words of factor_cases.
-fn measurement_words(m: &WheelOdomMeasurement) -> String {
-    let planar = m.planar_motion();
-    format!(" delta{} covariance{} sigmas{}", hex(&planar.delta), hex(&planar.covariance.to_cols_array()), hex(&[m.z_sigma, m.tilt_sigma]))
+/// Every way to make a measurement.
+fn measurement_made(m: &WheelOdomMeasurement) -> Call {
+    let plain = WheelOdomMeasurement::new(m.delta, m.covariance);
+    let full = plain.with_out_of_plane_sigmas(m.z_sigma, m.tilt_sigma);
+    let answer = vec![
+        Part::Same("new", made(&plain)),
+        Part::Same("with_out_of_plane_sigmas", made(&full)),
+        Part::Same("from a motion", made(&WheelOdomMeasurement::from(m.planar_motion()))),
+        Part::Same("planar_motion", motion_words(&full.planar_motion())),
+    ];
+    Call { kind: 2, words: measurement_words(m), answer }
+}
+
+/// A still factor as it is made, and with a mean.
+fn still_made(f: &StationaryFactor) -> Call {
+    let gyro = f.gyro.unwrap_or(StationaryGyro::new(Vec3F64::ZERO, 1.0));
+    let new = StationaryFactor::new(f.from_idx, f.to_idx, f.span_s, f.calib);
+    let words = [vec![f.from_idx as u64, f.to_idx as u64, bits(f.span_s)], calib_words(&f.calib), words(&gyro_numbers(&gyro))].concat();
+    Call { kind: 8, words, answer: vec![Part::Same("still new", shown(&new)), Part::Same("with_gyro", shown(&new.with_gyro(gyro)))] }
 }
 
 pub fn constructors(ours: &Ours, random: &mut Random) -> Group {
     let mut group = Group::new("constructors and defaults", "");
-    let cases: Vec<_> = (0..500).map(|_| (measurement(random), still(random))).collect();
-    let gyro = |f: &StationaryFactor| f.gyro.unwrap_or(StationaryGyro::new(Vec3F64::ZERO, 1.0));
-    let mut records = Records::default();
-    for (m, f) in &cases {
-        records.word(2);
-        put_measurement(&mut records, m);
-        records.word(8);
-        records.word(f.from_idx as u64);
-        records.word(f.to_idx as u64);
-        let (c, g) = (&f.calib, gyro(f));
-        records.numbers(&[f.span_s, c.gyro_noise, c.accel_noise, c.gyro_bias_noise, c.accel_bias_noise]);
-        records.numbers(&[g.mean.x, g.mean.y, g.mean.z, g.covered_s]);
-    }
-    for ((m, f), six) in cases.iter().zip(ours.lines("factor_cases", &records, 6 * cases.len()).chunks(6)) {
-        let plain = WheelOdomMeasurement::new(m.delta, m.covariance);
-        let full = plain.with_out_of_plane_sigmas(m.z_sigma, m.tilt_sigma);
-        let moved = WheelOdomMeasurement::from(m.planar_motion());
-        let planar = full.planar_motion();
-        let new = StationaryFactor::new(f.from_idx, f.to_idx, f.span_s, f.calib);
-        group.same("new", &six[0], &format!("new{}", measurement_words(&plain)));
-        group.same("with_out_of_plane_sigmas", &six[1], &format!("with sigmas{}", measurement_words(&full)));
-        group.same("from a motion", &six[2], &format!("from motion{}", measurement_words(&moved)));
-        let motion = format!("planar motion delta{} covariance{}", hex(&planar.delta), hex(&planar.covariance.to_cols_array()));
-        group.same("planar_motion", &six[3], &motion);
-        group.same("still new", &six[4], &format!("still new{}", still_words(&new)));
-        group.same("with_gyro", &six[5], &format!("still with gyro{}", still_words(&new.with_gyro(gyro(f)))));
-        group.cases += 1;
-    }
+    let cases: Vec<_> = (0..500).map(|_| [measurement_made(&measurement(random)), still_made(&still(random))]).collect();
+    group.ask(ours, "factor_cases", &cases);
     group
 }

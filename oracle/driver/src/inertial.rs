@@ -1,40 +1,23 @@
 //! Runs of the inertial accumulation: steps, corrections, predictions, widening, batches and windows.
-use crate::ours::{Line, Ours, Records};
+use crate::call::{Call, Part, records};
+use crate::ours::{Line, Ours, words};
 use crate::random::{LEAST, MOST, Random};
 use crate::report::{Group, larger, largest};
 use kornia_algebra::{Mat3F64, Vec3F64};
 use kornia_sensors::imu::{GRAVITY_MAGNITUDE, ImuBias, ImuCalib, ImuMeasurement, PreintegratedImu};
 
-/// Numbers of a line of ours, and the Rust's, with the size that they are judged by.
-struct Check {
-    what: &'static str,
-    line: usize,
-    word: &'static str,
-    skip: usize,
-    rust: Vec<f64>,
-    size: f64,
-}
-
-/// What is expected of one record.
-struct Expected {
-    lines: usize,
-    refusal: u64,
-    dt: Option<f64>,
-    order: Option<Vec<usize>>,
-    checks: Vec<Check>,
-}
-
 #[derive(Default)]
 pub struct Run {
-    records: Records,
-    expected: Vec<Expected>,
+    pub calls: Vec<Call>,
     sizes: Sizes,
     steps: u64,
+    /// Steps and corrections that the added refusal 8 keeps from the Rust.
+    refused_8: u64,
 }
 
 /// The largest sizes that the groups of numbers reached in a run, by the Rust.
 #[derive(Default)]
-pub struct Sizes(pub [f64; 10]);
+struct Sizes([f64; 10]);
 
 // ---- the Rust
 
@@ -51,7 +34,7 @@ const NAMES: [&str; 10] = [
     "Jacobian, position by accel bias",
 ];
 
-pub fn groups(p: &PreintegratedImu) -> [Vec<f64>; 10] {
+fn groups(p: &PreintegratedImu) -> [Vec<f64>; 10] {
     let matrix = |m: &Mat3F64| m.to_cols_array().to_vec();
     [
         matrix(&p.delta_rotation),
@@ -73,14 +56,14 @@ pub fn angle(v: Vec3F64) -> f64 {
 }
 
 impl Sizes {
-    pub fn reach(&mut self, rust: &PreintegratedImu) {
+    fn reach(&mut self, rust: &PreintegratedImu) {
         for (size, xs) in self.0.iter_mut().zip(groups(rust)) {
             *size = larger(*size, largest(&xs));
         }
     }
 
     /// Of a corrected rotation, velocity and position: those of the run and of the terms (reading 17).
-    pub fn of_correction(&self, rust: &PreintegratedImu, bias: &ImuBias) -> [f64; 3] {
+    fn of_correction(&self, rust: &PreintegratedImu, bias: &ImuBias) -> [f64; 3] {
         let (dbg, dba) = (bias.gyro - rust.bias.gyro, bias.accel - rust.bias.accel);
         let by = |i: usize, d: Vec3F64| 3.0 * self.0[i] * largest(&d.to_array());
         let vector = |i: usize| [self.0[i], by(4 + 2 * i, dbg), by(5 + 2 * i, dba)].into_iter().fold(0.0, larger);
@@ -88,7 +71,7 @@ impl Sizes {
     }
 
     /// Of a predicted rotation, velocity and position: those of the terms (reading 17).
-    pub fn of_prediction(&self, dt: f64, from: &World) -> [f64; 3] {
+    fn of_prediction(&self, dt: f64, from: &World) -> [f64; 3] {
         let turn = largest(&from.r.to_cols_array());
         let [v, p, g] = [from.v, from.p, from.g].map(|x| largest(&x.to_array()));
         let size = |xs: &[f64]| xs.iter().copied().fold(0.0, larger);
@@ -105,163 +88,150 @@ pub struct World {
 }
 
 impl World {
-    pub fn put(&self, records: &mut Records) {
-        records.numbers(&self.r.to_cols_array());
-        for x in [self.v, self.p, self.g] {
-            records.numbers(&x.to_array());
-        }
+    pub fn words(&self) -> Vec<u64> {
+        [words(&self.r.to_cols_array()), words(&[self.v, self.p, self.g].map(|x| x.to_array()).concat())].concat()
     }
+}
+
+/// What became of a call.
+fn said(number: u64) -> Part {
+    Part::Same("accepted", vec![number])
 }
 
 impl Run {
-    fn expect(&mut self, lines: usize, dt: Option<f64>, checks: Vec<Check>) {
-        self.expected.push(Expected { lines, refusal: 0, dt, order: None, checks });
+    fn call(&mut self, kind: u64, words: Vec<u64>, answer: Vec<Part>) {
+        self.calls.push(Call { kind, words, answer });
     }
 
-    fn refuse8(&mut self) {
-        self.expected.push(Expected { lines: 1, refusal: 8, dt: None, order: None, checks: vec![] });
+    /// What the Rust is kept from. That ours changes nothing shows in the next call.
+    fn refuse_8(&mut self, kind: u64, words: Vec<u64>) {
+        self.refused_8 += 1;
+        self.call(kind, words, vec![said(8)]);
     }
 
-    /// The line of a call that gives a state: its motion.
-    fn expect_motion(&mut self, rust: &PreintegratedImu) {
+    /// A call that gives a state, whose motion the line ends with.
+    fn call_for_state(&mut self, kind: u64, words: Vec<u64>, mut answer: Vec<Part>, rust: &PreintegratedImu) {
         self.sizes.reach(rust);
-        let checks = self.motion_checks(rust);
-        self.expect(1, Some(rust.dt), checks);
+        answer.extend(self.motion_parts(rust));
+        self.call(kind, words, answer);
     }
 
-    fn motion_checks(&self, rust: &PreintegratedImu) -> Vec<Check> {
-        let all = groups(rust).into_iter().zip(self.sizes.0).zip(NAMES).take(3);
-        all.map(|((rust, size), what)| Check { what, line: 0, word: what, skip: 0, rust, size }).collect()
+    /// Some groups of numbers, within the sizes that they reached.
+    fn near(&self, rust: &PreintegratedImu, which: std::ops::Range<usize>) -> Vec<Part> {
+        let all = groups(rust).into_iter().zip(NAMES).zip(self.sizes.0);
+        all.map(|((xs, what), size)| Part::Near(what, xs, size)).skip(which.start).take(which.len()).collect()
     }
 
-    fn make(&mut self, bias: &ImuBias, calib: &ImuCalib) -> PreintegratedImu {
-        self.records.word(2);
-        put_bias(&mut self.records, bias);
-        put_calib(&mut self.records, calib);
+    fn motion_parts(&self, rust: &PreintegratedImu) -> Vec<Part> {
+        let mut parts = self.near(rust, 0..3);
+        parts.push(Part::Same("dt", words(&[rust.dt])));
+        parts
+    }
+
+    pub fn make(&mut self, bias: &ImuBias, calib: &ImuCalib) -> PreintegratedImu {
         let rust = PreintegratedImu::new(*bias, *calib);
-        self.expect_motion(&rust);
+        self.call_for_state(2, parameter_words(bias, calib), vec![said(0)], &rust);
         rust
     }
 
-    fn step(&mut self, rust: &mut PreintegratedImu, m: &ImuMeasurement, dt: f64) {
-        self.records.word(3);
-        put_measurement(&mut self.records, m);
-        self.records.numbers(&[dt]);
+    pub fn step(&mut self, rust: &mut PreintegratedImu, m: &ImuMeasurement, dt: f64) {
         if angle((m.gyro - rust.bias.gyro) * dt) > 4.0 {
-            return self.refuse8();
+            return self.refuse_8(3, step_words(m, dt));
         }
         rust.integrate(m, dt);
         self.steps += 1;
-        self.expect_motion(rust);
+        self.call_for_state(3, step_words(m, dt), vec![said(0)], rust);
     }
 
     /// Every number of the state.
-    fn show(&mut self, rust: &PreintegratedImu) {
-        self.records.word(16);
-        let mut checks = self.motion_checks(rust);
-        for (i, rust) in groups(rust).into_iter().enumerate().skip(3) {
-            let (line, word, skip) = match i {
-                3 => (2, "covariance", 0),
-                4 => (3, "covariance", 0),
-                _ => (4, "jacobians", (i - 5) * 9),
-            };
-            checks.push(Check { what: NAMES[i], line, word, skip, rust, size: self.sizes.0[i] });
-        }
-        self.expect(5, Some(rust.dt), checks);
+    pub fn show(&mut self, rust: &PreintegratedImu) {
+        let mut answer = self.motion_parts(rust);
+        answer.push(Part::Kept(parameter_words(&rust.bias, &rust.calib)));
+        answer.extend(self.near(rust, 3..10));
+        self.call(12, vec![], answer);
     }
 
-    fn widen(&mut self, rust: &mut PreintegratedImu, seconds: f64) {
-        self.records.word(4);
-        self.records.numbers(&[seconds]);
+    pub fn widen(&mut self, rust: &mut PreintegratedImu, seconds: f64) {
         rust.widen_bias_walk(seconds);
-        self.expect_motion(rust);
+        self.call_for_state(4, words(&[seconds]), vec![said(0)], rust);
     }
 
     /// The three corrections.
-    fn correct(&mut self, rust: &PreintegratedImu, bias: &ImuBias) {
-        for kind in 12..15 {
-            self.records.word(kind);
-            put_bias(&mut self.records, bias);
-        }
-        let sizes = self.sizes.of_correction(rust, bias);
+    pub fn correct(&mut self, rust: &PreintegratedImu, bias: &ImuBias) {
+        let [turn, speed, place] = self.sizes.of_correction(rust, bias);
         if angle(rust.d_rotation_d_bias_gyro * (bias.gyro - rust.bias.gyro)) > 4.0 {
-            self.refuse8();
+            self.refuse_8(8, bias_words(bias));
         } else {
-            self.asked("corrected rotation", &rust.delta_rotation_with_bias(bias).to_cols_array(), sizes[0]);
+            let rotation = rust.delta_rotation_with_bias(bias).to_cols_array().to_vec();
+            self.call(8, bias_words(bias), vec![said(0), Part::Near("corrected rotation", rotation, turn)]);
         }
-        self.asked("corrected velocity", &rust.delta_velocity_with_bias(bias).to_array(), sizes[1]);
-        self.asked("corrected position", &rust.delta_position_with_bias(bias).to_array(), sizes[2]);
+        let velocity = rust.delta_velocity_with_bias(bias).to_array().to_vec();
+        self.call(9, bias_words(bias), vec![said(0), Part::Near("corrected velocity", velocity, speed)]);
+        let position = rust.delta_position_with_bias(bias).to_array().to_vec();
+        self.call(10, bias_words(bias), vec![said(0), Part::Near("corrected position", position, place)]);
     }
 
-    fn asked(&mut self, what: &'static str, rust: &[f64], size: f64) {
-        self.expect(1, None, vec![Check { what, line: 0, word: "accepted", skip: 0, rust: rust.to_vec(), size }]);
-    }
-
-    fn predict(&mut self, rust: &PreintegratedImu, from: &World) {
-        self.records.word(15);
-        from.put(&mut self.records);
+    pub fn predict(&mut self, rust: &PreintegratedImu, from: &World) {
         let (r, v, p) = rust.predict(&from.r, &from.v, &from.p, &from.g);
-        let sizes = self.sizes.of_prediction(rust.dt, from);
-        let check = |what, word, rust: &[f64], size| Check { what, line: 0, word, skip: 0, rust: rust.to_vec(), size };
-        let checks = vec![
-            check("predicted rotation", "rotation", &r.to_cols_array(), sizes[0]),
-            check("predicted velocity", "velocity", &v.to_array(), sizes[1]),
-            check("predicted position", "position", &p.to_array(), sizes[2]),
+        let [turn, speed, place] = self.sizes.of_prediction(rust.dt, from);
+        let answer = vec![
+            said(0),
+            Part::Near("predicted rotation", r.to_cols_array().to_vec(), turn),
+            Part::Near("predicted velocity", v.to_array().to_vec(), speed),
+            Part::Near("predicted position", p.to_array().to_vec(), place),
         ];
-        self.expect(1, None, checks);
+        self.call(11, from.words(), answer);
     }
 
-    fn batch(&mut self, rust: &mut PreintegratedImu, samples: &[ImuMeasurement]) {
-        self.records.word(5);
-        put_samples(&mut self.records, samples);
+    /// The index of a batch in which no step is refused is 0.
+    pub fn batch(&mut self, rust: &mut PreintegratedImu, samples: &[ImuMeasurement]) {
         rust.integrate_batch(samples);
         self.steps += samples.len().saturating_sub(1) as u64;
-        self.expect_motion(rust);
+        self.call_for_state(5, samples_words(samples), vec![said(0), Part::Kept(vec![0])], rust);
     }
 
-    fn window(&mut self, w: &Window) -> PreintegratedImu {
-        self.records.word(6);
-        put_bias(&mut self.records, &w.bias);
-        put_calib(&mut self.records, &w.calib);
-        self.records.numbers(&[w.t0, w.t1]);
-        self.records.word(w.samples.len() as u64);
-        put_samples(&mut self.records, &w.samples);
+    /// Into an order buffer of as many places as there are samples; those behind the window's own keep what they held.
+    pub fn window(&mut self, w: &Window) -> PreintegratedImu {
         let rust = w.rust();
         // The order is the Rust's own expression, over indices.
         let time = |i: &usize| w.samples[*i].timestamp;
-        let mut order: Vec<usize> = (0..w.samples.len()).filter(|i| time(i) >= w.t0 && time(i) <= w.t1).collect();
+        let n = w.samples.len();
+        let mut order: Vec<usize> = (0..n).filter(|i| time(i) >= w.t0 && time(i) <= w.t1).collect();
         order.sort_by(|a, b| time(a).total_cmp(&time(b)));
         self.steps += order.len() as u64;
-        self.expect_motion(&rust);
-        self.expected.last_mut().expect("one").order = Some(order);
+        let untouched = (order.len()..n).map(|i| 1000 + i as u64).collect();
+        let order = order.iter().map(|i| *i as u64).collect();
+        let answer = vec![said(0), Part::Same("order of the window", order), Part::Kept(untouched)];
+        self.call_for_state(6, w.words(n), answer, &rust);
         rust
     }
 }
 
-// ---- records
+// ---- what records hold
 
-pub fn put_bias(r: &mut Records, b: &ImuBias) {
-    r.numbers(&b.gyro.to_array());
-    r.numbers(&b.accel.to_array());
+pub fn bias_words(b: &ImuBias) -> Vec<u64> {
+    words(&[b.gyro, b.accel].map(|x| x.to_array()).concat())
 }
 
-pub fn put_calib(r: &mut Records, c: &ImuCalib) {
-    r.numbers(&[c.gyro_noise, c.accel_noise, c.gyro_bias_noise, c.accel_bias_noise]);
+pub fn calib_words(c: &ImuCalib) -> Vec<u64> {
+    words(&[c.gyro_noise, c.accel_noise, c.gyro_bias_noise, c.accel_bias_noise])
 }
 
-pub fn put_measurement(r: &mut Records, m: &ImuMeasurement) {
-    r.numbers(&[m.timestamp]);
-    r.numbers(&m.gyro.to_array());
-    r.numbers(&m.accel.to_array());
+pub fn parameter_words(bias: &ImuBias, calib: &ImuCalib) -> Vec<u64> {
+    [bias_words(bias), calib_words(calib)].concat()
 }
 
-pub fn put_samples(r: &mut Records, samples: &[ImuMeasurement]) {
-    for _ in 0..2 {
-        r.word(7 * samples.len() as u64);
-    }
-    for m in samples {
-        put_measurement(r, m);
-    }
+fn measurement_words(m: &ImuMeasurement) -> Vec<u64> {
+    [words(&[m.timestamp]), words(&m.gyro.to_array()), words(&m.accel.to_array())].concat()
+}
+
+pub fn step_words(m: &ImuMeasurement, dt: f64) -> Vec<u64> {
+    [measurement_words(m), words(&[dt])].concat()
+}
+
+pub fn samples_words(samples: &[ImuMeasurement]) -> Vec<u64> {
+    let n = 7 * samples.len() as u64;
+    [n, n].into_iter().chain(samples.iter().flat_map(measurement_words)).collect()
 }
 
 // ---- what is drawn
@@ -392,6 +362,12 @@ impl Window {
     pub fn rust(&self) -> PreintegratedImu {
         PreintegratedImu::from_measurements(self.bias, self.calib, &self.samples, self.t0, self.t1)
     }
+
+    /// With an order buffer of so many places.
+    pub fn words(&self, places: usize) -> Vec<u64> {
+        let parameters = parameter_words(&self.bias, &self.calib);
+        [parameters, words(&[self.t0, self.t1]), vec![places as u64], samples_words(&self.samples)].concat()
+    }
 }
 
 /// Samples in any order, some outside the window or at one time, some at no time, with rates that turn at most 4 in the whole window.
@@ -449,40 +425,28 @@ pub fn window_runs(random: &mut Random) -> Vec<Run> {
 // ---- ours
 
 impl Run {
-    fn judge<'a>(&self, group: &mut Group, mut lines: &'a [String]) -> &'a [String] {
-        for e in &self.expected {
-            let own: Vec<_> = lines[..e.lines].iter().map(|l| Line::new(l)).collect();
-            lines = &lines[e.lines..];
-            group.same("accepted", own[0].refusal()[0], e.refusal);
-            if e.refusal == 8 {
-                group.leave_out("steps and corrections refused by the added 8, not given to the Rust");
+    fn judge(&self, group: &mut Group, lines: &mut impl Iterator<Item = Line>) {
+        for (call, mut line) in self.calls.iter().zip(lines) {
+            for part in &call.answer {
+                if let Part::Near(_, xs, _) = part {
+                    group.same("how many numbers", line.left().min(xs.len()), xs.len());
+                }
+                group.hold(&mut line, std::slice::from_ref(part));
             }
-            if let Some(dt) = e.dt {
-                group.same_floats("dt", &own[0].after("dt", 1), &[dt]);
-            }
-            if let Some(order) = &e.order {
-                group.same("order of the window", own[0].decimals("order", order.len()), order.clone());
-            }
-            for c in &e.checks {
-                let bits = own[c.line].after(c.word, c.skip + c.rust.len());
-                let ours: Vec<_> = bits.iter().skip(c.skip).map(|b| f64::from_bits(*b)).collect();
-                group.same("how many numbers", ours.len(), c.rust.len());
-                group.near(c.what, &ours, &c.rust, c.size);
-            }
+        }
+        for _ in 0..self.refused_8 {
+            group.leave_out("steps and corrections refused by the added 8, not given to the Rust");
         }
         group.parts.1 += self.steps;
         group.cases += 1;
-        lines
     }
 }
 
 pub fn runs(ours: &Ours, name: &'static str, runs: &[Run]) -> Group {
-    let records = Records(runs.iter().flat_map(|r| r.records.0.clone()).collect());
-    let lines = ours.lines("imu_cases", &records, runs.iter().flat_map(|r| &r.expected).map(|e| e.lines).sum());
+    let mut lines = ours.lines("imu_cases", &records(runs.iter().flat_map(|r| &r.calls)));
     let mut group = Group::new(name, "steps");
-    let mut rest = &lines[..];
     for run in runs {
-        rest = run.judge(&mut group, rest);
+        run.judge(&mut group, &mut lines);
     }
     group
 }

@@ -1,4 +1,5 @@
 //! Runs the Rust that Latchfern was carried over from beside the proved code, on the same inputs. README.md says what is compared how.
+mod call;
 mod differences;
 mod factors;
 mod inertial;

@@ -1,15 +1,9 @@
-//! The number leaves. The program number_cases takes what goes in and what must come out, here the Rust's, and counts what came out right.
-use crate::ours::{Ours, Records};
+//! The number leaves, against Rust itself.
+use crate::ours::{Ours, Records, bits};
 use crate::random::Random;
-use crate::report::Group;
+use crate::report::{Group, larger};
 
 const CASES: u64 = 20_000;
-
-fn six(records: &mut Records, words: &[u64]) {
-    for i in 0..6 {
-        records.word(words.get(i).copied().unwrap_or(0));
-    }
-}
 
 /// A whole number of any length, with either sign.
 fn whole(random: &mut Random) -> i64 {
@@ -21,35 +15,53 @@ fn angle(random: &mut Random) -> f64 {
     if random.once_in(2) { random.between(-4.0, 4.0) } else { random.signed(1e-9, 4.0) }
 }
 
-fn records(random: &mut Random) -> Records {
-    let mut records = Records::default();
-    for _ in 0..CASES {
-        let n = whole(random);
-        six(&mut records, &[1, n as u64, (n as f64).to_bits()]);
-        let (from, to) = (whole(random), whole(random));
-        six(&mut records, &[2, from as u64, to as u64, to.wrapping_sub(from) as u64]);
-        let x = random.size(f64::from_bits(1), f64::MAX);
-        six(&mut records, &[3, x.to_bits(), 0, x.sqrt().to_bits()]);
-        let a = angle(random);
-        let (sine, cosine) = a.sin_cos();
-        six(&mut records, &[4, a.to_bits(), sine.to_bits(), 0, cosine.to_bits(), 0]);
+/// What goes in, and what Rust makes of it, for each of the kinds 1 to 4.
+fn drawn(random: &mut Random) -> [(Vec<u64>, Vec<u64>); 4] {
+    let n = whole(random);
+    let (from, to) = (whole(random), whole(random));
+    let x = random.size(f64::from_bits(1), f64::MAX);
+    let a = angle(random);
+    let (sine, cosine) = a.sin_cos();
+    [
+        (vec![n as u64], vec![bits(n as f64)]),
+        (vec![from as u64, to as u64], vec![to.wrapping_sub(from) as u64]),
+        (vec![bits(x)], vec![0, bits(x.sqrt())]),
+        (vec![bits(a)], vec![0, bits(sine), bits(cosine)]),
+    ]
+}
+
+/// How far a sine and a cosine are off; of anything else, infinitely if a bit is.
+fn error(ours: &[u64], rust: &[u64]) -> f64 {
+    match (ours, rust) {
+        ([0, a, b], [0, sine, cosine]) => {
+            let apart = |x: &u64, y: &u64| (f64::from_bits(*x) - f64::from_bits(*y)).abs();
+            larger(apart(a, sine), apart(b, cosine))
+        }
+        _ if ours == rust => 0.0,
+        _ => f64::INFINITY,
     }
-    records
 }
 
 pub fn leaves(ours: &Ours, random: &mut Random) -> Group {
     let mut group = Group::new("number leaves: whole numbers, tick differences, roots, and sines and cosines within 2e-15", "");
-    group.cases = 4 * CASES;
-    let lines = ours.lines("number_cases", &records(random), 9);
-    let all = |what: &str, right: &str| format!("{what}: {CASES} {right}, 0 ");
-    for (line, start) in lines.iter().zip([
-        all("whole numbers", "right"),
-        all("tick differences", "right"),
-        all("roots", "right"),
-        all("sines and cosines", "within 2e-15"),
-    ]) {
-        group.same("all of a kind right", line.starts_with(&start), true);
+    let cases: Vec<_> = (0..CASES).map(|_| drawn(random)).collect();
+    let mut records = Records::default();
+    for (kind, (given, _)) in cases.iter().flat_map(|four| (1..).zip(four)) {
+        records.put(kind, given);
     }
-    group.note = lines[7].clone();
+    let mut lines = ours.lines("number_cases", &records);
+    let (mut right, mut largest) = ([0; 4], 0.0);
+    for four in &cases {
+        for (right, (_, rust)) in right.iter_mut().zip(four) {
+            let error = error(&lines.next().expect("one").take(rust.len()), rust);
+            *right += u64::from(error <= 2e-15);
+            largest = larger(largest, error);
+        }
+    }
+    for right in right {
+        group.same("all of a kind right", right, CASES);
+    }
+    group.cases = 4 * CASES;
+    group.note = format!("largest error of a sine or cosine: {:.0}e-17", 1e17 * largest);
     group
 }

@@ -15,94 +15,91 @@ impl Ours {
         tools.join("../crates").join(program).is_dir()
     }
 
-    /// The lines, so many, that the program writes when it is given the records. A thread of its own writes these, so that no pipe blocks.
-    pub fn lines(&self, program: &str, records: &Records, count: usize) -> Vec<String> {
+    /// The text that the program writes when it is given the records. A thread of its own writes these, so that no pipe blocks.
+    pub fn text(&self, program: &str, records: &Records) -> String {
         let mut child =
             Command::new("bash").arg(&self.runner).arg(program).stdin(Stdio::piped()).stdout(Stdio::piped()).spawn().expect("bash runs");
         let mut into = child.stdin.take().expect("a pipe");
-        let bytes = records.0.clone();
+        let bytes = records.bytes.clone();
         let writer = std::thread::spawn(move || into.write_all(&bytes));
         let mut text = String::new();
         let mut from = child.stdout.take().expect("a pipe");
         from.read_to_string(&mut text).expect("text");
         writer.join().expect("no panic").expect("all is read");
         assert!(child.wait().expect("it ends").success(), "{program} failed");
-        let lines: Vec<_> = text.lines().map(str::to_owned).collect();
-        assert_eq!(lines.len(), count, "the lines of {program}");
-        lines
+        text
+    }
+
+    /// A line for each record, in their order.
+    pub fn lines(&self, program: &str, records: &Records) -> std::vec::IntoIter<Line> {
+        let text = self.text(program, records);
+        let (kinds, lines): (Vec<_>, Vec<_>) = text.lines().map(Line::read).unzip();
+        assert_eq!(kinds, records.kinds, "the lines of {program} are those of the records");
+        lines.into_iter()
     }
 }
 
-/// Little-endian words of 64 bits.
+/// Each a kind and what it has behind it, in little-endian words of 64 bits.
 #[derive(Default)]
-pub struct Records(pub Vec<u8>);
+pub struct Records {
+    pub bytes: Vec<u8>,
+    kinds: Vec<u64>,
+}
 
 impl Records {
-    pub fn word(&mut self, w: u64) {
-        self.0.extend(w.to_le_bytes());
-    }
-
-    pub fn numbers(&mut self, xs: &[f64]) {
-        for x in xs {
-            self.word(x.to_bits());
-        }
-    }
-
-    /// A record of sixteen words, as wheel_cases takes them: what is not given is 0.
-    pub fn sixteen(&mut self, words: &[u64]) {
-        for i in 0..16 {
-            self.word(words.get(i).copied().unwrap_or(0));
+    pub fn put(&mut self, kind: u64, words: &[u64]) {
+        self.kinds.push(kind);
+        for w in [kind].iter().chain(words) {
+            self.bytes.extend(w.to_le_bytes());
         }
     }
 }
 
-/// A line of a program, by its words.
-pub struct Line<'a>(Vec<&'a str>);
+/// The words of a line behind its kind, which are taken from the front.
+pub struct Line(std::vec::IntoIter<u64>);
 
-impl<'a> Line<'a> {
-    pub fn new(text: &'a str) -> Self {
-        Self(text.split_whitespace().collect())
+impl Line {
+    fn read(text: &str) -> (u64, Self) {
+        let mut words = text.split(' ');
+        let kind = words.next().and_then(|w| w.parse().ok()).expect("a kind");
+        let words: Vec<_> = words.map(|w| u64::from_str_radix(w, 16).expect("a word")).collect();
+        (kind, Self(words.into_iter()))
     }
 
-    /// The n patterns behind the first mention of a word, or none.
-    pub fn after(&self, word: &str, n: usize) -> Vec<u64> {
-        self.after_nth(word, 0, n)
+    /// The next n words, or as many as are left.
+    pub fn take(&mut self, n: usize) -> Vec<u64> {
+        self.0.by_ref().take(n).collect()
     }
 
-    /// The same behind a later mention.
-    pub fn after_nth(&self, word: &str, nth: usize, n: usize) -> Vec<u64> {
-        let at = self.0.iter().enumerate().filter(|(_, w)| **w == word).nth(nth);
-        at.map_or(vec![], |(i, _)| self.bits(i + 1).into_iter().take(n).collect())
+    /// The next n numbers. One that is missing is NaN, which is near nothing.
+    pub fn floats(&mut self, n: usize) -> Vec<f64> {
+        let mut xs: Vec<_> = self.take(n).into_iter().map(f64::from_bits).collect();
+        xs.resize(n, f64::NAN);
+        xs
     }
 
-    /// The run of patterns that begins at a place.
-    pub fn bits(&self, at: usize) -> Vec<u64> {
-        let words = self.0.iter().skip(at);
-        words.map_while(|w| (w.len() == 16).then(|| u64::from_str_radix(w, 16).ok()).flatten()).collect()
+    /// The line behind its next n words.
+    pub fn behind(&mut self, n: usize) -> &mut Self {
+        self.take(n);
+        self
     }
 
-    /// The first n decimals behind a word.
-    pub fn decimals(&self, word: &str, n: usize) -> Vec<usize> {
-        let behind = self.0.iter().skip_while(|w| **w != word).skip(1).take(n);
-        behind.map_while(|w| w.parse().ok()).collect()
-    }
-
-    pub fn has(&self, word: &str) -> bool {
-        self.0.contains(&word)
-    }
-
-    /// The refusal and what it carries, or 0.
-    pub fn refusal(&self) -> Vec<u64> {
-        let Some(i) = self.0.iter().position(|w| *w == "refused") else {
-            return vec![0];
-        };
-        let number = self.0.get(i + 1).and_then(|w| w.parse().ok()).unwrap_or(u64::MAX);
-        let mut all = vec![number];
-        all.extend(self.bits(i + 2));
-        all
+    pub fn left(&self) -> usize {
+        self.0.len()
     }
 }
 
-pub fn floats<const N: usize>(bits: &[u64]) -> [f64; N] {
-    std::array::from_fn(|i| bits.get(i).map_or(f64::NAN, |b| f64::from_bits(*b)))
+/// A line as the programs write it.
+pub fn line(kind: u64, words: &[u64]) -> String {
+    let words: String = words.iter().map(|w| format!(" {w:016x}")).collect();
+    format!("{kind}{words}\n")
+}
+
+/// The bits of a number; of any NaN, those of one.
+pub fn bits(x: f64) -> u64 {
+    if x.is_nan() { f64::NAN.to_bits() } else { x.to_bits() }
+}
+
+pub fn words(xs: &[f64]) -> Vec<u64> {
+    xs.iter().map(|x| bits(*x)).collect()
 }

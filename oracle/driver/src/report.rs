@@ -1,4 +1,6 @@
 //! What a group of cases came to.
+use crate::call::{Call, Part, records};
+use crate::ours::{Line, Ours};
 use std::collections::BTreeMap;
 use std::f64::consts::TAU;
 
@@ -46,33 +48,55 @@ impl Group {
         *self.answers.entry(answer).or_default() += 1;
     }
 
-    /// Bit for bit.
-    pub fn same<T: PartialEq + std::fmt::Debug>(&mut self, what: &'static str, ours: T, rust: T) -> bool {
-        *self.same.entry(what).or_default() += 1;
-        let is_same = ours == rust;
-        if !is_same {
-            self.tell(format!("{what}: ours {ours:x?}, the Rust {rust:x?}"));
+    /// Asks ours the calls of some cases, and holds what it says against what the Rust does.
+    pub fn ask(&mut self, ours: &Ours, program: &str, cases: &[impl AsRef<[Call]>]) {
+        let mut lines = ours.lines(program, &records(cases.iter().flat_map(AsRef::as_ref)));
+        for case in cases {
+            for (call, mut line) in case.as_ref().iter().zip(lines.by_ref()) {
+                self.hold(&mut line, &call.answer);
+            }
+            self.cases += 1;
         }
-        is_same
     }
 
-    pub fn same_floats(&mut self, what: &'static str, ours: &[u64], rust: &[f64]) -> bool {
-        self.same(what, ours.to_vec(), rust.iter().map(|x| x.to_bits()).collect())
+    /// Holds a line against what the Rust answers.
+    pub fn hold(&mut self, line: &mut Line, answer: &[Part]) {
+        for part in answer {
+            match part {
+                Part::Kept(words) => {
+                    let ours = line.take(words.len());
+                    if ours != *words {
+                        self.tell(format!("what is kept: ours {ours:x?}, and not {words:x?}"));
+                    }
+                }
+                Part::Same(what, words) => self.same(what, line.take(words.len()), words.clone()),
+                Part::Near(what, xs, size) => self.near(what, &line.floats(xs.len()), xs, *size),
+                Part::Heading(x, size) => self.near_heading(line.floats(1)[0], *x, *size),
+            }
+        }
+    }
+
+    /// Bit for bit.
+    pub fn same<T: PartialEq + std::fmt::Debug>(&mut self, what: &'static str, ours: T, rust: T) {
+        *self.same.entry(what).or_default() += 1;
+        if ours != rust {
+            self.tell(format!("{what}: ours {ours:x?}, the Rust {rust:x?}"));
+        }
     }
 
     /// Within the tolerance, of a size.
-    pub fn near(&mut self, what: &'static str, ours: &[f64], rust: &[f64], size: f64) -> bool {
+    pub fn near(&mut self, what: &'static str, ours: &[f64], rust: &[f64], size: f64) {
         let error = ours.iter().zip(rust).map(|(a, b)| (a - b).abs()).fold(0.0, larger);
-        self.judge(what, ours, rust, error, size)
+        self.judge(what, ours, rust, error, size);
     }
 
     /// The same, modulo a turn.
-    pub fn near_heading(&mut self, ours: f64, rust: f64, size: f64) -> bool {
+    fn near_heading(&mut self, ours: f64, rust: f64, size: f64) {
         let error = (ours - rust).abs();
-        self.judge("heading", &[ours], &[rust], error.min((error - TAU).abs()), size)
+        self.judge("heading", &[ours], &[rust], error.min((error - TAU).abs()), size);
     }
 
-    fn judge(&mut self, what: &'static str, ours: &[f64], rust: &[f64], error: f64, size: f64) -> bool {
+    fn judge(&mut self, what: &'static str, ours: &[f64], rust: &[f64], error: f64, size: f64) {
         let worst = self.near.entry(what).or_default();
         worst.numbers += ours.len() as u64;
         let part = if error == 0.0 { 0.0 } else { error / size };
@@ -84,10 +108,9 @@ impl Group {
         if !is_near {
             self.tell(format!("{what}: ours {ours:?}, the Rust {rust:?}, {part:e} of the size {size:e}"));
         }
-        is_near
     }
 
-    pub fn tell(&mut self, text: String) {
+    fn tell(&mut self, text: String) {
         self.aparts += 1;
         if self.apart.len() < 8 {
             let case = self.cases;

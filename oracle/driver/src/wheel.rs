@@ -1,5 +1,6 @@
 //! Runs through the wheel integrator, and what is asked of a drive on its own.
-use crate::ours::{Line, Ours, Records, floats};
+use crate::call::{Call, Part, records};
+use crate::ours::{Ours, bits, words};
 use crate::random::{LEAST, MOST, Random};
 use crate::report::{Group, larger, largest};
 use kornia_algebra::Mat3F64;
@@ -11,21 +12,22 @@ use std::f64::consts::PI;
 
 type Integrator = WheelPreintegration<DifferentialDrive>;
 
+pub const UNIT: DifferentialDrive = DifferentialDrive { wheel_radius: 1.0, track_width: 1.0, ticks_per_revolution: 1.0 };
+
 /// What the Rust said to one record, and its state after it.
-pub struct Seen {
-    pub event: Event,
+struct Seen {
+    event: Event,
     /// The refusal and what it carries, or 0.
-    pub said: Vec<u64>,
-    pub delta: [f64; 3],
-    pub covariance: [f64; 9],
-    pub dt: f64,
-    pub last: Option<WheelMeasurement>,
+    said: Vec<u64>,
+    motion: PlanarMotion,
+    dt: f64,
+    last: Option<WheelMeasurement>,
     /// How far from its start the interval came on its way, and how far it turned, PI at most.
     way: (f64, f64),
 }
 
 #[derive(Clone, Copy, PartialEq)]
-pub enum Event {
+enum Event {
     Reading(WheelMeasurement),
     /// A reading that the added refusal 8 keeps from the Rust.
     Refused8(WheelMeasurement),
@@ -33,11 +35,11 @@ pub enum Event {
 }
 
 pub struct Run {
-    pub drive: DifferentialDrive,
-    pub noise: WheelNoise,
-    pub seen: Vec<Seen>,
+    drive: DifferentialDrive,
+    noise: WheelNoise,
+    seen: Vec<Seen>,
     /// Readings drawn and given to neither, by their ratio.
-    pub near_power: u64,
+    near_power: u64,
 }
 
 // ---- the Rust
@@ -96,15 +98,7 @@ impl Run {
     }
 
     fn saw(&mut self, event: Event, said: Vec<u64>, rust: &Integrator, way: (f64, f64)) {
-        self.seen.push(Seen {
-            way,
-            event,
-            said,
-            delta: rust.motion().delta,
-            covariance: rust.motion().covariance.to_cols_array(),
-            dt: rust.dt(),
-            last: rust.last().copied(),
-        });
+        self.seen.push(Seen { way, event, said, motion: *rust.motion(), dt: rust.dt(), last: rust.last().copied() });
     }
 
     /// Gives the reading to the Rust, unless it is outside the domain.
@@ -279,106 +273,128 @@ fn not_finite(random: &mut Random, m: WheelMeasurement) -> WheelMeasurement {
     }
 }
 
-// ---- ours
+// ---- calls
 
-pub fn reading_words(m: &WheelMeasurement, ticks_kind: u64) -> [u64; 5] {
-    let valid = u64::from(m.valid);
-    match m.reading {
-        WheelReading::Ticks([l, r]) => [ticks_kind, valid, m.timestamp.to_bits(), l as u64, r as u64],
-        WheelReading::AngularVelocity([l, r]) => [ticks_kind + 1, valid, m.timestamp.to_bits(), l.to_bits(), r.to_bits()],
-    }
+fn settings_words(drive: &DifferentialDrive, noise: &WheelNoise) -> Vec<u64> {
+    words(&[drive.wheel_radius, drive.track_width, drive.ticks_per_revolution, noise.wheel_rate, noise.lateral_velocity])
 }
 
-pub fn parameter_words(kind: u64, drive: &DifferentialDrive, noise: &WheelNoise) -> [u64; 6] {
-    [
-        kind,
-        drive.wheel_radius.to_bits(),
-        drive.track_width.to_bits(),
-        drive.ticks_per_revolution.to_bits(),
-        noise.wheel_rate.to_bits(),
-        noise.lateral_velocity.to_bits(),
-    ]
+pub fn motion_words(m: &PlanarMotion) -> Vec<u64> {
+    [words(&m.delta), words(&m.covariance.to_cols_array())].concat()
+}
+
+/// A reading behind its kind.
+fn reading_words(m: &WheelMeasurement) -> Vec<u64> {
+    let (kind, [left, right]) = match m.reading {
+        WheelReading::Ticks(ticks) => (4, ticks.map(|n| n as u64)),
+        WheelReading::AngularVelocity(rates) => (5, rates.map(bits)),
+    };
+    vec![kind, u64::from(m.valid), bits(m.timestamp), left, right]
+}
+
+fn last_words(last: Option<WheelMeasurement>) -> Vec<u64> {
+    last.map_or(vec![0], |m| reading_words(&m))
+}
+
+pub fn read(m: &WheelMeasurement) -> Call {
+    let words = reading_words(m);
+    Call::unanswered(words[0], words[1..].to_vec())
+}
+
+/// Begins a walk with a drive and a noise that are fit.
+pub fn begin(drive: &DifferentialDrive, noise: &WheelNoise) -> Call {
+    let rust = Integrator::new(*drive, *noise).expect("fit");
+    let settings = settings_words(drive, noise);
+    let state = [vec![0], settings.clone(), motion_words(rust.motion()), words(&[rust.dt()]), last_words(rust.last().copied())].concat();
+    Call { kind: 2, words: settings, answer: vec![Part::Kept(state)] }
+}
+
+/// Hands in a state of this drive and motion, fit or not.
+pub fn hand_in(drive: &DifferentialDrive, motion: &PlanarMotion) -> Call {
+    let words = [settings_words(drive, &WheelNoise::default()), motion_words(motion), words(&[0.0]), last_words(None)].concat();
+    Call { kind: 7, words: words.clone(), answer: vec![Part::Kept(words)] }
+}
+
+/// A motion within the sizes of its place, heading and covariance.
+pub fn motion_parts(m: &PlanarMotion, (place, heading, size): (f64, f64, f64)) -> [Part; 3] {
+    let [x, y, turn] = m.delta;
+    let covariance = m.covariance.to_cols_array().to_vec();
+    [Part::Near("x and y", vec![x, y], place), Part::Heading(turn, heading), Part::Near("covariance", covariance, size)]
 }
 
 impl Run {
-    fn record(&self, records: &mut Records) {
-        records.sixteen(&parameter_words(1, &self.drive, &self.noise));
-        for s in &self.seen {
-            match &s.event {
-                Event::Reading(m) | Event::Refused8(m) => records.sixteen(&reading_words(m, 3)),
-                Event::Restart => records.sixteen(&[5]),
-            }
-        }
+    /// The same without what the added 8 keeps from the Rust, which changes nothing.
+    pub fn without_refused_8(mut self) -> Self {
+        self.seen.retain(|s| !matches!(s.event, Event::Refused8(_)));
+        self
     }
 
-    /// Judges the run by the lines of ours, and gives what is left of them.
-    fn judge<'a>(&self, group: &mut Group, lines: &'a [String]) -> &'a [String] {
+    /// The beginning, and every event with the whole state after it.
+    pub fn calls(&self) -> Vec<Call> {
+        let mut calls = vec![begin(&self.drive, &self.noise)];
         let mut sizes = Sizes::default();
-        for (s, text) in self.seen.iter().zip(&lines[2..]) {
-            let line = Line::new(text);
-            group.parts.1 += 1;
-            match s.event {
-                Event::Restart => sizes = Sizes::default(),
-                Event::Refused8(_) => group.leave_out("readings refused by the added 8, not given to the Rust"),
-                Event::Reading(_) => {}
-            }
-            group.same("refusals and their times", line.refusal(), s.said.clone());
-            group.tally(s.event == Event::Restart, s.said[0]);
-            group.same_floats("dt", &line.after("dt", 1), &[s.dt]);
-            group.same("last reading", last_of(&line), s.last.map(|m| reading_words(&m, 0).to_vec()));
-            let delta: [f64; 3] = floats(&line.after("motion", 3));
-            let covariance: [f64; 9] = floats(&line.after("covariance", 9));
+        for s in &self.seen {
+            let mut call = match &s.event {
+                Event::Reading(m) | Event::Refused8(m) => read(m),
+                Event::Restart => {
+                    sizes = Sizes::default();
+                    Call::unanswered(6, vec![])
+                }
+            };
             sizes.reach(s);
-            group.near("x and y", &delta[..2], &s.delta[..2], sizes.place);
-            group.near_heading(delta[2], s.delta[2], sizes.heading);
-            group.near("covariance", &covariance, &s.covariance, sizes.covariance);
+            call.answer.push(Part::Same("refusals and their times", s.said.clone()));
+            call.answer.push(Part::Kept(settings_words(&self.drive, &self.noise)));
+            call.answer.extend(motion_parts(&s.motion, (sizes.place, sizes.heading, sizes.covariance)));
+            call.answer.push(Part::Same("dt", words(&[s.dt])));
+            call.answer.push(Part::Same("last reading", last_words(s.last)));
+            calls.push(call);
+        }
+        calls
+    }
+
+    fn tally(&self, group: &mut Group) {
+        for s in &self.seen {
+            group.parts.1 += 1;
+            group.tally(s.event == Event::Restart, s.said[0]);
+            if matches!(s.event, Event::Refused8(_)) {
+                group.leave_out("readings refused by the added 8, not given to the Rust");
+            }
         }
         for _ in 0..self.near_power {
             group.leave_out("readings whose ratio is within 1e-12 above a power of two, given to neither");
         }
-        group.cases += 1;
-        &lines[2 + self.seen.len()..]
     }
 }
 
 /// The largest sizes reached since the start or the last restart, by the Rust, inside an interval too: after whole turns a heading or a place may
 /// be back at 0.
 #[derive(Default)]
-pub struct Sizes {
-    pub place: f64,
-    pub heading: f64,
-    pub covariance: f64,
+struct Sizes {
+    place: f64,
+    heading: f64,
+    covariance: f64,
 }
 
 impl Sizes {
-    pub fn reach(&mut self, s: &Seen) {
-        self.place = larger(self.place, larger(s.way.0, largest(&s.delta[..2])));
-        self.heading = larger(self.heading, larger(s.way.1, s.delta[2].abs()));
-        self.covariance = larger(self.covariance, largest(&s.covariance));
+    fn reach(&mut self, s: &Seen) {
+        let PlanarMotion { delta, covariance } = &s.motion;
+        self.place = larger(self.place, larger(s.way.0, largest(&delta[..2])));
+        self.heading = larger(self.heading, larger(s.way.1, delta[2].abs()));
+        self.covariance = larger(self.covariance, largest(&covariance.to_cols_array()));
     }
-}
-
-fn last_of(line: &Line) -> Option<Vec<u64>> {
-    let kind = if line.has("ticks") { 0 } else { 1 };
-    let words = line.after(if kind == 0 { "ticks" } else { "rates" }, 3);
-    (words.len() == 3).then(|| [vec![kind, 1], words].concat())
 }
 
 pub fn runs(ours: &Ours, name: &'static str, runs: &[Run]) -> Group {
-    let mut records = Records::default();
-    for run in runs {
-        run.record(&mut records);
-    }
-    let lines = ours.lines("wheel_cases", &records, runs.iter().map(|r| 2 + r.seen.len()).sum());
     let mut group = Group::new(name, "readings and restarts");
     let steps = runs.iter().flat_map(|r| r.seen.windows(2)).map(|w| w[1].dt - w[0].dt).filter(|step| *step > 0.0);
     let (least, most) = steps.fold((f64::INFINITY, 0.0), |(a, b), step| (step.min(a), step.max(b)));
     let longest = runs.iter().map(|r| r.seen.len()).max().unwrap_or(0);
     group.note = format!("the longest run {longest}, time steps accepted from {least:.1e} to {most:.1e} s");
-    let mut rest = &lines[..];
     for run in runs {
-        rest = run.judge(&mut group, rest);
+        run.tally(&mut group);
     }
+    let cases: Vec<_> = runs.iter().map(Run::calls).collect();
+    group.ask(ours, "wheel_cases", &cases);
     group
 }
 
@@ -446,10 +462,10 @@ fn turning_run(random: &mut Random) -> Run {
 
 /// A drive, two rates, two differences of ticks and a time.
 pub struct Asked {
-    pub drive: DifferentialDrive,
-    pub rates: [f64; 2],
-    pub ticks: [i64; 2],
-    pub dt: f64,
+    drive: DifferentialDrive,
+    rates: [f64; 2],
+    ticks: [i64; 2],
+    dt: f64,
 }
 
 impl Asked {
@@ -462,38 +478,41 @@ impl Asked {
             dt: random.positive(),
         }
     }
+
+    /// The drive, and what it gives.
+    pub fn calls(&self) -> [Call; 4] {
+        let twist = self.drive.twist(self.rates);
+        let jacobian = self.drive.twist_jacobian(self.rates).map(|column| column.to_array()).concat();
+        let ticks = vec![self.ticks[0] as u64, self.ticks[1] as u64, bits(self.dt)];
+        let ask = |kind, asked, what, given: &[f64]| {
+            let answer = vec![Part::Kept(vec![0]), Part::Same(what, words(given))];
+            Call { kind, words: asked, answer }
+        };
+        [
+            begin(&self.drive, &WheelNoise::default()),
+            ask(8, words(&self.rates), "twist", &[twist.vx, twist.vy, twist.wz]),
+            ask(9, ticks, "rates from ticks", &self.drive.wheel_rates_from_ticks(self.ticks, self.dt)),
+            ask(10, vec![], "Jacobian", &jacobian),
+        ]
+    }
 }
 
 pub fn asked(ours: &Ours, random: &mut Random) -> Group {
     let mut group = Group::new("twists, rates from ticks and Jacobians, asked on their own; the default noise", "");
-    let cases: Vec<_> = (0..10_000).map(|_| Asked::draw(random)).collect();
-    let mut records = Records::default();
-    for a in &cases {
-        records.sixteen(&parameter_words(6, &a.drive, &WheelNoise::default()));
-        records.sixteen(&[12, a.rates[0].to_bits(), a.rates[1].to_bits()]);
-        records.sixteen(&[13, a.ticks[0] as u64, a.ticks[1] as u64, a.dt.to_bits()]);
-        records.sixteen(&[14]);
-    }
-    records.sixteen(&[2, 1f64.to_bits(), 1f64.to_bits(), 1f64.to_bits()]);
-    let lines = ours.lines("wheel_cases", &records, 4 * cases.len() + 2);
-    let noise = WheelNoise::default();
-    group.same_floats("default noise", &Line::new(&lines[lines.len() - 1]).after("noise", 2), &[noise.wheel_rate, noise.lateral_velocity]);
-    for (a, four) in cases.iter().zip(lines.chunks(4)) {
-        let given: Vec<_> = four.iter().map(|l| Line::new(l).after("gives", 6)).collect();
-        let twist = a.drive.twist(a.rates);
-        let [left, right] = a.drive.twist_jacobian(a.rates);
-        group.same_floats("twist", &given[1], &[twist.vx, twist.vy, twist.wz]);
-        group.same_floats("rates from ticks", &given[2], &a.drive.wheel_rates_from_ticks(a.ticks, a.dt));
-        group.same_floats("Jacobian", &given[3], &[left.to_array(), right.to_array()].concat());
-        group.cases += 1;
-    }
+    let cases: Vec<_> = (0..10_000).map(|_| Asked::draw(random).calls()).collect();
+    let WheelNoise { wheel_rate, lateral_velocity } = WheelNoise::default();
+    let drive = settings_words(&UNIT, &WheelNoise::default())[..3].to_vec();
+    let default = Part::Same("default noise", words(&[wheel_rate, lateral_velocity]));
+    let begun = Call { kind: 3, words: drive.clone(), answer: vec![Part::Kept(vec![0]), Part::Kept(drive), default] };
+    group.ask(ours, "wheel_cases", &cases);
+    group.hold(&mut ours.lines("wheel_cases", &records([&begun])).next().expect("one"), &begun.answer);
     group
 }
 
 // ---- single compositions
 
 /// A symmetric matrix: half of the time L·Lᵀ, otherwise any.
-pub fn covariance(random: &mut Random) -> [f64; 9] {
+fn covariance(random: &mut Random) -> [f64; 9] {
     let e = if random.once_in(2) {
         let scale = random.size(1e-3, 1e3);
         let mut l = [0.0; 6];
@@ -526,32 +545,16 @@ pub fn term_sizes(a: &PlanarMotion, b: &PlanarMotion) -> (f64, f64, f64) {
     (place, heading, larger(first, largest(&b.covariance.to_cols_array())))
 }
 
-fn motion_words(m: &PlanarMotion) -> Vec<u64> {
-    m.delta.iter().chain(&m.covariance.to_cols_array()).map(|x| x.to_bits()).collect()
+/// The first motion, and the second composed with it.
+pub fn composition(a: &PlanarMotion, b: &PlanarMotion) -> [Call; 2] {
+    let mut answer = vec![Part::Same("refusals", vec![0])];
+    answer.extend(motion_parts(&a.compose(b), term_sizes(a, b)));
+    [hand_in(&UNIT, a), Call { kind: 11, words: motion_words(b), answer }]
 }
 
 pub fn compositions(ours: &Ours, random: &mut Random) -> Group {
     let mut group = Group::new("single compositions of planar motions, by the size of inputs and terms", "");
-    let pairs: Vec<_> = (0..10_000).map(|_| (motion(random), motion(random))).collect();
-    let mut records = Records::default();
-    for (a, b) in &pairs {
-        let (a, b) = (motion_words(a), motion_words(b));
-        records.sixteen(&[&[7], &a[..3], &[0]].concat());
-        records.sixteen(&[&[8, 0, 0, 0], &a[3..]].concat());
-        records.sixteen(&[&[15], &b[..]].concat());
-    }
-    let lines = ours.lines("wheel_cases", &records, 3 * pairs.len());
-    for ((a, b), three) in pairs.iter().zip(lines.chunks(3)) {
-        let line = Line::new(&three[2]);
-        let rust = a.compose(b);
-        let (place, heading, size) = term_sizes(a, b);
-        let delta: [f64; 3] = floats(&line.after("motion", 3));
-        let cov: [f64; 9] = floats(&line.after("covariance", 9));
-        group.same("refusals", line.refusal(), vec![0]);
-        group.near("x and y", &delta[..2], &rust.delta[..2], place);
-        group.near_heading(delta[2], rust.delta[2], heading);
-        group.near("covariance", &cov, &rust.covariance.to_cols_array(), size);
-        group.cases += 1;
-    }
+    let cases: Vec<_> = (0..10_000).map(|_| composition(&motion(random), &motion(random))).collect();
+    group.ask(ours, "wheel_cases", &cases);
     group
 }

@@ -14,14 +14,17 @@ abbrev μ-loop : tie.MeasureT-loop
 loop-holds : tie.Need-loop-holds Inv-loop μ-loop
 loop-holds c = tt
 
-mul-print-f64 : tie.Need-mul-print-f64 Inv-loop μ-loop
-mul-print-f64 c = omega arith
+mul-to-bits : tie.Need-mul-to-bits Inv-loop μ-loop
+mul-to-bits c = omega arith
 
-shared-slice-read-print-f64 : tie.Need-shared-slice-read-print-f64 Inv-loop μ-loop
-shared-slice-read-print-f64 c = omega arith
+shared-slice-read-to-bits : tie.Need-shared-slice-read-to-bits Inv-loop μ-loop
+shared-slice-read-to-bits c = omega arith
 
-print-f64-requires : tie.Need-print-f64-requires Inv-loop μ-loop
-print-f64-requires c κs = tt
+to-bits-requires : tie.Need-to-bits-requires Inv-loop μ-loop
+to-bits-requires c κs = tt
+
+print-word-requires : tie.Need-print-word-requires Inv-loop μ-loop
+print-word-requires c κs = tt
 
 add-i : tie.Need-add-i Inv-loop μ-loop
 add-i c = omega arith
@@ -42,9 +45,10 @@ print-numbers-spec =
     Inv-loop
     μ-loop
     loop-holds
-    mul-print-f64
-    shared-slice-read-print-f64
-    print-f64-requires
+    mul-to-bits
+    shared-slice-read-to-bits
+    to-bits-requires
+    print-word-requires
     add-i
     loop-less
     loop-again

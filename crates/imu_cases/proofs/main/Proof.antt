@@ -21,11 +21,11 @@ read-word-requires c κs = tt
 returns : tie.Need-returns Inv-loop μ-loop
 returns c = tt
 
+begin-line-requires : tie.Need-begin-line-requires Inv-loop μ-loop
+begin-line-requires c κs = tt
+
 after-record-requires : tie.Need-after-record-requires Inv-loop μ-loop
 after-record-requires c κs = tt
-
-print-state-motion-requires : tie.Need-print-state-motion-requires Inv-loop μ-loop
-print-state-motion-requires c κs = tt
 
 end-line-requires : tie.Need-end-line-requires Inv-loop μ-loop
 end-line-requires c κs = tt
@@ -52,8 +52,8 @@ main-spec =
     loop-holds
     read-word-requires
     returns
+    begin-line-requires
     after-record-requires
-    print-state-motion-requires
     end-line-requires
     sub-turns
     loop-less

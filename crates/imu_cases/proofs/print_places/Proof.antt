@@ -1,36 +1,27 @@
--- `imu_cases::print_places` is safe and ends: each turn leaves fewer places. Nothing has to hold from turn to turn. Assumes nothing.
+-- `imu_cases::print_places` is safe and ends: the measure is the number of turns that are left. Nothing has to hold from turn to turn. Assumes nothing.
 use Prim.Native.Nat.{_-_}
-use native.Mathlib.Omega.{arith}
 use lib.ListN.{length}
+use native.Mathlib.Omega.{arith}
 use Rattle.imu_cases.proofs.print_places.Statement.{statement}
 use Rattle.imu_cases.proofs.print_places.Tie as tie
 
 abbrev Inv-loop : tie.InvT-loop
-Inv-loop order i₀ t4 i = Unit {0}
+Inv-loop order i₀ i = Unit {0}
 
 abbrev μ-loop : tie.MeasureT-loop
-μ-loop order i₀ t4 i = length order - i
-
-slice-aggregate-write : tie.Need-slice-aggregate-write Inv-loop μ-loop
-slice-aggregate-write c = omega arith
-
-write-requires : tie.Need-write-requires Inv-loop μ-loop
-write-requires c κs = tt
+μ-loop order i₀ i = length order - i
 
 loop-holds : tie.Need-loop-holds Inv-loop μ-loop
 loop-holds c = tt
 
-slice-aggregate-print-count : tie.Need-slice-aggregate-print-count Inv-loop μ-loop
-slice-aggregate-print-count c = omega arith
+mul-print-word : tie.Need-mul-print-word Inv-loop μ-loop
+mul-print-word c = omega arith
 
-mul-print-count : tie.Need-mul-print-count Inv-loop μ-loop
-mul-print-count c = omega arith
+shared-slice-read-print-word : tie.Need-shared-slice-read-print-word Inv-loop μ-loop
+shared-slice-read-print-word c = omega arith
 
-shared-slice-read-print-count : tie.Need-shared-slice-read-print-count Inv-loop μ-loop
-shared-slice-read-print-count c = omega arith
-
-print-count-requires : tie.Need-print-count-requires Inv-loop μ-loop
-print-count-requires c κs = tt
+print-word-requires : tie.Need-print-word-requires Inv-loop μ-loop
+print-word-requires c κs = tt
 
 add-i : tie.Need-add-i Inv-loop μ-loop
 add-i c = omega arith
@@ -50,13 +41,10 @@ print-places-spec =
     (tie.spec
     Inv-loop
     μ-loop
-    slice-aggregate-write
-    write-requires
     loop-holds
-    slice-aggregate-print-count
-    mul-print-count
-    shared-slice-read-print-count
-    print-count-requires
+    mul-print-word
+    shared-slice-read-print-word
+    print-word-requires
     add-i
     loop-less
     loop-again

@@ -1,15 +1,13 @@
--- `number_cases::main` is safe and ends: each turn brings the records nearer to the number that no run comes to. Nothing has to hold from turn to turn.
--- Assumes nothing.
-use Prim.Native.Nat.{_-_}
+-- `number_cases::main` is safe and ends: the measure is the number of turns that are left. Nothing has to hold from turn to turn. Assumes nothing.
 use native.Mathlib.Omega.{arith}
 use Rattle.number_cases.proofs.main.Statement.{statement}
 use Rattle.number_cases.proofs.main.Tie as tie
 
 abbrev Inv-loop : tie.InvT-loop
-Inv-loop tally₀ records₀ tally records = Unit {0}
+Inv-loop turns₀ turns = Unit {0}
 
 abbrev μ-loop : tie.MeasureT-loop
-μ-loop tally₀ records₀ tally records = 18446744073709551615 - records
+μ-loop turns₀ turns = turns
 
 loop-holds : tie.Need-loop-holds Inv-loop μ-loop
 loop-holds c = tt
@@ -17,17 +15,20 @@ loop-holds c = tt
 read-word-requires : tie.Need-read-word-requires Inv-loop μ-loop
 read-word-requires c κs = tt
 
-print-requires : tie.Need-print-requires Inv-loop μ-loop
-print-requires c κs = tt
-
 returns : tie.Need-returns Inv-loop μ-loop
 returns c = tt
 
-judged-requires : tie.Need-judged-requires Inv-loop μ-loop
-judged-requires c κs = tt
+begin-line-requires : tie.Need-begin-line-requires Inv-loop μ-loop
+begin-line-requires c κs = tt
 
-add-records : tie.Need-add-records Inv-loop μ-loop
-add-records c = omega arith
+ask-requires : tie.Need-ask-requires Inv-loop μ-loop
+ask-requires c κs = tt
+
+end-line-requires : tie.Need-end-line-requires Inv-loop μ-loop
+end-line-requires c κs = tt
+
+sub-turns : tie.Need-sub-turns Inv-loop μ-loop
+sub-turns c = omega arith
 
 loop-less : tie.Need-loop-less Inv-loop μ-loop
 loop-less c = omega arith
@@ -46,10 +47,11 @@ main-spec =
     μ-loop
     loop-holds
     read-word-requires
-    print-requires
     returns
-    judged-requires
-    add-records
+    begin-line-requires
+    ask-requires
+    end-line-requires
+    sub-turns
     loop-less
     loop-again
     returns-2)

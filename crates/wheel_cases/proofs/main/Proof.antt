@@ -21,8 +21,17 @@ read-word-requires c κs = tt
 returns : tie.Need-returns Inv-loop μ-loop
 returns c = tt
 
+begin-line-requires : tie.Need-begin-line-requires Inv-loop μ-loop
+begin-line-requires c κs = tt
+
 after-record-requires : tie.Need-after-record-requires Inv-loop μ-loop
 after-record-requires c κs = tt
+
+motion-requires : tie.Need-motion-requires Inv-loop μ-loop
+motion-requires c κs = tt
+
+ask-requires : tie.Need-ask-requires Inv-loop μ-loop
+ask-requires c κs = tt
 
 print-state-requires : tie.Need-print-state-requires Inv-loop μ-loop
 print-state-requires c κs = tt
@@ -52,7 +61,10 @@ main-spec =
     loop-holds
     read-word-requires
     returns
+    begin-line-requires
     after-record-requires
+    motion-requires
+    ask-requires
     print-state-requires
     end-line-requires
     sub-turns

@@ -1,9 +1,9 @@
 //! Wheel factors and still factors.
-use super::{Row, number, numbers};
-use crate::factors::{put_factor, put_limit, put_measurement, put_still};
+use super::{Row, number, numbers, unless_refused};
+use crate::factors::{informed, is_valid, limits_joined, measurements, still_information, still_joined};
 use crate::mapping::stationary::{StationaryFactor, StationaryGyro};
 use crate::mapping::wheel_odom::{WheelOdomFactor, WheelOdomMeasurement};
-use crate::ours::Records;
+use crate::ours::Line;
 use kornia_3d::pose::Pose3d;
 use kornia_algebra::Vec3F64;
 use kornia_sensors::imu::ImuCalib;
@@ -34,11 +34,8 @@ pub fn rows() -> Vec<Row> {
 }
 
 fn information(place: &'static str, input: &str, m: WheelOdomMeasurement) -> Row {
-    let mut records = Records::default();
-    records.word(3);
-    put_measurement(&mut records, &m);
     let rust = m.information().map_or("None".into(), |i| format!("diagonal {}", numbers(&[0, 1, 2, 3, 4, 5].map(|k| i[k][k].to_bits()))));
-    Row { place, input: input.into(), rust, records, lines: 1, read: |line| numbers(&line.after("given", 36)) }
+    Row { place, input: input.into(), rust, calls: vec![informed(&m)], read: |line| unless_refused(line, |line| numbers(&line.take(36))) }
 }
 
 fn with(m: WheelOdomMeasurement, limit: Option<f64>) -> WheelOdomFactor {
@@ -47,38 +44,23 @@ fn with(m: WheelOdomMeasurement, limit: Option<f64>) -> WheelOdomFactor {
 
 fn valid(place: &'static str, input: &str, m: WheelOdomMeasurement) -> Row {
     let f = with(m, None);
-    let mut records = Records::default();
-    records.word(6);
-    put_factor(&mut records, &f);
-    Row { place, input: input.into(), rust: format!("{}", f.is_valid()), records, lines: 1, read: |line| format!("{}", line.has("valid")) }
+    let read = |line: &mut Line| format!("{}", line.take(1) == [1]);
+    Row { place, input: input.into(), rust: format!("{}", f.is_valid()), calls: vec![is_valid(&f)], read }
 }
 
 fn sigmas(place: &'static str, a: f64, b: f64) -> Row {
     let (first, second) = (unit_measurement(0.0, a, 1.0), unit_measurement(0.0, b, 1.0));
-    let mut records = Records::default();
-    records.word(4);
-    put_measurement(&mut records, &first);
-    put_measurement(&mut records, &second);
     let rust = number(first.compose(&second).z_sigma);
-    Row {
-        place,
-        input: format!("z sigmas {} and {}", number(a), number(b)),
-        rust,
-        records,
-        lines: 1,
-        read: |line| numbers(&line.after("sigmas", 1)),
-    }
+    let input = format!("z sigmas {} and {}", number(a), number(b));
+    let calls = vec![measurements(&first, &second)];
+    Row { place, input, rust, calls, read: |line| unless_refused(line, |line| numbers(&line.behind(12).take(1))) }
 }
 
 fn limits(place: &'static str, a: Option<f64>, b: Option<f64>) -> Row {
-    let mut records = Records::default();
-    records.word(11);
-    put_limit(&mut records, a);
-    put_limit(&mut records, b);
     let m = unit_measurement(0.0, 1.0, 1.0);
     let first = WheelOdomFactor { to_idx: 0, ..with(m, a) };
     let rust = first.compose(&with(m, b)).and_then(|f| f.huber_chi2).map_or("none".into(), number);
-    Row { place, input: format!("{a:?}, {b:?}"), rust, records, lines: 1, read: |line| numbers(&line.after("limit", 1)) }
+    Row { place, input: format!("{a:?}, {b:?}"), rust, calls: vec![limits_joined(a, b)], read: |line| numbers(&line.behind(1).take(1)) }
 }
 
 // ---- still factors
@@ -91,12 +73,10 @@ fn still_rows() -> Vec<Row> {
     let thin = StationaryFactor { translation_sigma_m: 1e-200, ..still(0, 1.0) };
     let quiet = StationaryFactor { calib: ImuCalib { gyro_noise: 0.0, ..CALIB }, ..still(0, 1.0) };
     let info = |place, input: &str, f: StationaryFactor| {
-        let mut records = Records::default();
-        records.word(9);
-        put_still(&mut records, &f);
         let i = f.information();
         let rust = format!("pose {}, gyro bias {}", number(i.pose[0][0]), number(i.gyro_bias));
-        Row { place, input: input.into(), rust, records, lines: 1, read: |line| numbers(&line.after("pose", 1)) }
+        let read = |line: &mut Line| unless_refused(line.behind(1), |line| numbers(&line.take(1)));
+        Row { place, input: input.into(), rust, calls: vec![still_information(&f)], read }
     };
     vec![
         info("still information of an invalid factor", "span 0, densities 1", still(0, 0.0)),
@@ -125,13 +105,10 @@ fn still_rows() -> Vec<Row> {
 }
 
 fn joined(place: &'static str, input: &str, a: StationaryFactor, b: StationaryFactor) -> Row {
-    let mut records = Records::default();
-    records.word(10);
-    put_still(&mut records, &a);
-    put_still(&mut records, &b);
     let rust = a.compose(&b).map_or("None".into(), |f| {
         let mean = f.gyro.map_or(String::new(), |g| format!(", mean {} over {}", number(g.mean.x), number(g.covered_s)));
         format!("span {}{mean}, is_valid {}", number(f.span_s), f.is_valid())
     });
-    Row { place, input: input.into(), rust, records, lines: 1, read: |line| format!("accepted, span {}", numbers(&line.after("span", 1))) }
+    let read = |line: &mut Line| unless_refused(line, |line| format!("accepted, span {}", numbers(&line.behind(2).take(1))));
+    Row { place, input: input.into(), rust, calls: vec![still_joined(&a, &b)], read }
 }

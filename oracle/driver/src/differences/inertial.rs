@@ -1,11 +1,15 @@
 //! The inertial part, where every refusal is added.
-use super::{Row, number, numbers};
-use crate::inertial::{put_bias, put_calib, put_measurement, put_samples};
-use crate::ours::{Line, Records};
+use super::{Row, number, numbers, unless_refused};
+use crate::call::Call;
+use crate::inertial::{Window, World, bias_words, parameter_words, samples_words, step_words};
+use crate::ours::{Line, words};
 use kornia_algebra::{Mat3F64, Vec3F64};
 use kornia_sensors::imu::{ImuBias, ImuCalib, ImuMeasurement, PreintegratedImu};
 
 const CALIB: ImuCalib = ImuCalib { gyro_noise: 1.0, accel_noise: 1.0, gyro_bias_noise: 1.0, accel_bias_noise: 1.0 };
+
+/// Those of a window's order buffer, which stand before the motion.
+const PLACES: usize = 8;
 
 fn reading(timestamp: f64, gyro: f64) -> ImuMeasurement {
     ImuMeasurement { timestamp, gyro: Vec3F64::new(gyro, 0.0, 0.0), accel: Vec3F64::new(1.0, 0.0, 0.0) }
@@ -47,78 +51,62 @@ fn told(p: &PreintegratedImu) -> String {
     format!("taken: dt {}, velocity x {}, rotation yy {}, covariance xx {}", number(p.dt), number(v), number(r), number(p.covariance[0]))
 }
 
-fn ours(line: &Line) -> String {
-    let (dt, v, r) = (line.after("dt", 1), line.after("velocity", 1), line.after("rotation", 9));
-    format!("taken: dt {}, velocity x {}, rotation yy {}", numbers(&dt), numbers(&v), numbers(&r[4..5]))
+/// Of ours, from the motion that comes next in a line.
+fn told_by(line: &mut Line) -> String {
+    let (r, v, _, dt) = (line.take(9), line.take(3), line.take(3), line.take(1));
+    format!("taken: dt {}, velocity x {}, rotation yy {}", numbers(&dt), numbers(&v[..1]), numbers(&r[4..5]))
 }
 
-fn begun(bias: &ImuBias, calib: &ImuCalib) -> (Records, PreintegratedImu) {
-    let mut records = Records::default();
-    records.word(2);
-    put_bias(&mut records, bias);
-    put_calib(&mut records, calib);
-    (records, PreintegratedImu::new(*bias, *calib))
+fn begun(bias: &ImuBias, calib: &ImuCalib) -> (Vec<Call>, PreintegratedImu) {
+    (vec![Call::unanswered(2, parameter_words(bias, calib))], PreintegratedImu::new(*bias, *calib))
 }
 
 fn made(place: &'static str, input: &str, bias: ImuBias, calib: ImuCalib) -> Row {
-    let (records, _) = begun(&bias, &calib);
-    Row { place, input: input.into(), rust: "a state".into(), records, lines: 1, read: ours }
+    let (calls, _) = begun(&bias, &calib);
+    Row { place, input: input.into(), rust: "a state".into(), calls, read: |line| unless_refused(line, told_by) }
 }
 
-fn stepped(m: &ImuMeasurement, dt: f64) -> (Records, PreintegratedImu) {
-    let (mut records, mut rust) = begun(&ImuBias::default(), &CALIB);
-    records.word(3);
-    put_measurement(&mut records, m);
-    records.numbers(&[dt]);
+fn stepped(m: &ImuMeasurement, dt: f64) -> (Vec<Call>, PreintegratedImu) {
+    let (mut calls, mut rust) = begun(&ImuBias::default(), &CALIB);
+    calls.push(Call::unanswered(3, step_words(m, dt)));
     rust.integrate(m, dt);
-    (records, rust)
+    (calls, rust)
 }
 
 fn step(place: &'static str, m: ImuMeasurement, dt: f64) -> Row {
-    let (records, rust) = stepped(&m, dt);
+    let (calls, rust) = stepped(&m, dt);
     let input = format!("densities 1, time {}, gyro ({}, 0, 0), accel (1, 0, 0), dt {}", number(m.timestamp), number(m.gyro.x), number(dt));
-    Row { place, input, rust: told(&rust), records, lines: 2, read: ours }
+    Row { place, input, rust: told(&rust), calls, read: |line| unless_refused(line, told_by) }
 }
 
 /// After one step of 1 s at rest.
 fn correction(place: &'static str, bias: ImuBias) -> Row {
-    let (mut records, rust) = stepped(&reading(0.0, 0.0), 1.0);
-    records.word(12);
-    put_bias(&mut records, &bias);
+    let (mut calls, rust) = stepped(&reading(0.0, 0.0), 1.0);
+    calls.push(Call::unanswered(8, bias_words(&bias)));
     let turned = rust.delta_rotation_with_bias(&bias).to_cols_array();
     let input = format!("one step of 1 s at rate 0, then gyro bias ({}, 0, 0)", number(bias.gyro.x));
-    Row {
-        place,
-        input,
-        rust: format!("rotation yy {}", number(turned[4])),
-        records,
-        lines: 3,
-        read: |line| numbers(&line.after("accepted", 9)),
-    }
+    let rust = format!("rotation yy {}", number(turned[4]));
+    Row { place, input, rust, calls, read: |line| unless_refused(line, |line| numbers(&line.take(9))) }
 }
 
 fn prediction() -> Row {
-    let (mut records, rust) = stepped(&reading(0.0, 0.0), 1.0);
-    let v = Vec3F64::new(f64::NAN, 0.0, 0.0);
-    records.word(15);
-    records.numbers(&Mat3F64::IDENTITY.to_cols_array());
-    for x in [v, Vec3F64::ZERO, Vec3F64::ZERO] {
-        records.numbers(&x.to_array());
-    }
-    let (_, v1, _) = rust.predict(&Mat3F64::IDENTITY, &v, &Vec3F64::ZERO, &Vec3F64::ZERO);
+    let (mut calls, rust) = stepped(&reading(0.0, 0.0), 1.0);
+    let from = World { r: Mat3F64::IDENTITY, v: Vec3F64::new(f64::NAN, 0.0, 0.0), p: Vec3F64::ZERO, g: Vec3F64::ZERO };
+    calls.push(Call::unanswered(11, from.words()));
+    let (_, v1, _) = rust.predict(&from.r, &from.v, &from.p, &from.g);
     let rust = format!("velocity x {}", number(v1.x));
     let input = "one step of 1 s, then from velocity (NaN, 0, 0)".into();
-    Row { place: "prediction from a number that is not finite", input, rust, records, lines: 3, read: ours }
+    let read = |line: &mut Line| unless_refused(line, |line| format!("velocity x {}", numbers(&line.behind(9).take(1))));
+    Row { place: "prediction from a number that is not finite", input, rust, calls, read }
 }
 
 fn widened(place: &'static str, density: f64, seconds: f64) -> Row {
-    let (mut records, mut rust) = begun(&ImuBias::default(), &ImuCalib { gyro_bias_noise: density, ..CALIB });
-    records.word(4);
-    records.numbers(&[seconds]);
+    let (mut calls, mut rust) = begun(&ImuBias::default(), &ImuCalib { gyro_bias_noise: density, ..CALIB });
+    calls.push(Call::unanswered(4, words(&[seconds])));
     rust.widen_bias_walk(seconds);
     let input = format!("walk of the gyro bias {}, seconds {}", number(density), number(seconds));
     let rust = format!("bias covariance xx {}", number(rust.bias_covariance[0]));
-    Row { place, input, rust, records, lines: 2, read: |_| "accepted".into() }
+    Row { place, input, rust, calls, read: |line| unless_refused(line, |_| "accepted".into()) }
 }
 
 fn batches() -> Vec<Row> {
@@ -139,11 +127,11 @@ fn at(times: &[f64]) -> Vec<ImuMeasurement> {
 }
 
 fn batch(place: &'static str, input: &str, samples: &[ImuMeasurement]) -> Row {
-    let (mut records, mut rust) = begun(&ImuBias::default(), &CALIB);
-    records.word(5);
-    put_samples(&mut records, samples);
+    let (mut calls, mut rust) = begun(&ImuBias::default(), &CALIB);
+    calls.push(Call::unanswered(5, samples_words(samples)));
     rust.integrate_batch(samples);
-    Row { place, input: input.into(), rust: told(&rust), records, lines: 2, read: ours }
+    // The index stands before the motion.
+    Row { place, input: input.into(), rust: told(&rust), calls, read: |line| unless_refused(line, |line| told_by(line.behind(1))) }
 }
 
 /// The same two readings by both ways in: a batch takes the reading before an interval, a window the one after.
@@ -168,13 +156,8 @@ fn windows() -> Vec<Row> {
 }
 
 fn window(place: &'static str, input: &str, samples: &[ImuMeasurement], t0: f64, t1: f64) -> Row {
-    let mut records = Records::default();
-    records.word(6);
-    put_bias(&mut records, &ImuBias::default());
-    put_calib(&mut records, &CALIB);
-    records.numbers(&[t0, t1]);
-    records.word(8);
-    put_samples(&mut records, samples);
-    let rust = PreintegratedImu::from_measurements(ImuBias::default(), CALIB, samples, t0, t1);
-    Row { place, input: input.into(), rust: told(&rust), records, lines: 1, read: ours }
+    let w = Window { bias: ImuBias::default(), calib: CALIB, samples: samples.to_vec(), t0, t1 };
+    let calls = vec![Call::unanswered(6, w.words(PLACES))];
+    let read = |line: &mut Line| unless_refused(line, |line| told_by(line.behind(PLACES)));
+    Row { place, input: input.into(), rust: told(&w.rust()), calls, read }
 }

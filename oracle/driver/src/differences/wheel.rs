@@ -1,8 +1,8 @@
 //! Composing, the wheel step, and what is asked of a drive.
-use super::{Row, listed, number, numbers};
-use crate::ours::Records;
-use crate::wheel::{least_halvings, parameter_words, reading_words};
-use kornia_algebra::Mat3F64;
+use super::{Row, listed, number, numbers, unless_refused};
+use crate::call::Call;
+use crate::ours::{Line, bits, words};
+use crate::wheel::{UNIT, begin, composition, hand_in, least_halvings, read};
 use kornia_sensors::wheel::{DifferentialDrive, PlanarMotion, WheelKinematics, WheelMeasurement, WheelNoise, WheelPreintegration};
 use std::f64::consts::{FRAC_PI_2, PI};
 
@@ -24,61 +24,54 @@ pub fn rows() -> Vec<Row> {
 }
 
 fn heading(place: &'static str, a: f64, b: f64) -> Row {
-    let mut records = Records::default();
-    records.sixteen(&[7, 0, 0, a.to_bits()]);
-    records.sixteen(&[8]);
-    records.sixteen(&[15, 0, 0, b.to_bits()]);
-    let motion = |heading| PlanarMotion { delta: [0.0, 0.0, heading], covariance: Mat3F64::ZERO };
+    let motion = |heading| PlanarMotion { delta: [0.0, 0.0, heading], ..PlanarMotion::IDENTITY };
     let rust = number(motion(a).compose(&motion(b)).delta[2]);
     let input = format!("headings {} and {}", number(a), number(b));
-    Row { place, input, rust, records, lines: 3, read: |line| numbers(&line.after("motion", 3)[2..]) }
+    let calls = composition(&motion(a), &motion(b)).into();
+    Row { place, input, rust, calls, read: |line| unless_refused(line, |line| numbers(&line.behind(2).take(1))) }
 }
 
-const DRIVE: DifferentialDrive = DifferentialDrive { wheel_radius: 1.0, track_width: 1.0, ticks_per_revolution: 1.0 };
+/// How many words of a state's line stand before its motion: the settings.
+const SETTINGS: usize = 5;
+
 const QUIET: WheelNoise = WheelNoise { wheel_rate: 0.0, lateral_velocity: 0.0 };
 
 /// Constant rates at some times.
 fn step(place: &'static str, rates: [f64; 2], times: &[f64]) -> Row {
-    let mut records = Records::default();
-    records.sixteen(&parameter_words(1, &DRIVE, &QUIET));
-    let mut rust = WheelPreintegration::new(DRIVE, QUIET).expect("fit");
+    let mut calls = vec![begin(&UNIT, &QUIET)];
+    let mut rust = WheelPreintegration::new(UNIT, QUIET).expect("fit");
     let mut said = String::new();
     for t in times {
         let m = WheelMeasurement::angular_velocity(*t, rates);
-        records.sixteen(&reading_words(&m, 3));
+        calls.push(read(&m));
         said = rust.integrate(&m).map_or_else(|e| format!("{e:?}"), |()| "accepted".into());
     }
     let input = format!("radius 1, track 1, no noise, rates {rates:?} at the times {}", listed(times));
     let [x, y, heading] = rust.motion().delta;
     let rust = format!("{said}, dt {}, motion {}, {}, {}", number(rust.dt()), number(x), number(y), number(heading));
-    Row {
-        place,
-        input,
-        rust,
-        records,
-        lines: 2 + times.len(),
-        read: |line| format!("accepted, motion {}", numbers(&line.after("motion", 3))),
-    }
+    let read = |line: &mut Line| unless_refused(line, |line| format!("accepted, motion {}", numbers(&line.behind(SETTINGS).take(3))));
+    Row { place, input, rust, calls, read }
 }
 
 fn asked_rows() -> Vec<Row> {
-    let no_radius = DifferentialDrive { wheel_radius: 0.0, ..DRIVE };
-    let large = DifferentialDrive { wheel_radius: 1e308, ..DRIVE };
-    let steep = DifferentialDrive { track_width: 1e-308, wheel_radius: 1e10, ..DRIVE };
+    let no_radius = DifferentialDrive { wheel_radius: 0.0, ..UNIT };
+    let large = DifferentialDrive { wheel_radius: 1e308, ..UNIT };
+    let steep = DifferentialDrive { track_width: 1e-308, wheel_radius: 1e10, ..UNIT };
     let twist = |place, input: &str, drive: DifferentialDrive, rates: [f64; 2]| {
         let t = drive.twist(rates);
-        row(place, input, &drive, &[12, rates[0].to_bits(), rates[1].to_bits()], &[t.vx, t.vy, t.wz])
+        row(place, input, &drive, Call::unanswered(8, words(&rates)), &[t.vx, t.vy, t.wz])
     };
     let rates = |place, input: &str, ticks: [i64; 2], dt: f64| {
-        row(place, input, &DRIVE, &[13, ticks[0] as u64, ticks[1] as u64, dt.to_bits()], &DRIVE.wheel_rates_from_ticks(ticks, dt))
+        let ask = Call::unanswered(9, vec![ticks[0] as u64, ticks[1] as u64, bits(dt)]);
+        row(place, input, &UNIT, ask, &UNIT.wheel_rates_from_ticks(ticks, dt))
     };
     let jacobian = |place, input: &str, drive: DifferentialDrive| {
         let [l, r] = drive.twist_jacobian([0.0; 2]);
-        row(place, input, &drive, &[14], &[l.to_array(), r.to_array()].concat())
+        row(place, input, &drive, Call::unanswered(10, vec![]), &[l.to_array(), r.to_array()].concat())
     };
     vec![
         twist("twist of an unfit drive", "radius 0, rates 1, 1", no_radius, [1.0, 1.0]),
-        twist("twist of a rate that is not finite", "radius 1, track 1, rates NaN, 1", DRIVE, [f64::NAN, 1.0]),
+        twist("twist of a rate that is not finite", "radius 1, track 1, rates NaN, 1", UNIT, [f64::NAN, 1.0]),
         twist("twist that overflows", "radius 1e308, track 1, rates 10, 10", large, [10.0, 10.0]),
         rates("rates over no time", "ticks 1, 0, dt 0", [1, 0], 0.0),
         rates("rates over a time below 0", "ticks 1, 0, dt −1", [1, 0], -1.0),
@@ -89,12 +82,9 @@ fn asked_rows() -> Vec<Row> {
     ]
 }
 
-fn row(place: &'static str, input: &str, drive: &DifferentialDrive, ask: &[u64], rust: &[f64]) -> Row {
-    let mut records = Records::default();
-    records.sixteen(&parameter_words(6, drive, &QUIET));
-    records.sixteen(ask);
-    let rust = listed(rust);
-    Row { place, input: input.into(), rust, records, lines: 2, read: |line| numbers(&line.after("gives", 6)) }
+fn row(place: &'static str, input: &str, drive: &DifferentialDrive, ask: Call, rust: &[f64]) -> Row {
+    let calls = vec![hand_in(drive, &PlanarMotion::IDENTITY), ask];
+    Row { place, input: input.into(), rust: listed(rust), calls, read: |line| unless_refused(line, |line| numbers(&line.take(6))) }
 }
 
 /// The Rust's count, which is private there: its own expression.
@@ -125,12 +115,11 @@ fn halving_rows() -> Vec<Row> {
 
 fn halving_row(dt: f64) -> Row {
     let noise = WheelNoise { wheel_rate: 1.0, lateral_velocity: 0.0 };
-    let mut records = Records::default();
-    records.sixteen(&parameter_words(1, &DRIVE, &noise));
-    let mut rust = WheelPreintegration::new(DRIVE, noise).expect("fit");
+    let mut calls = vec![begin(&UNIT, &noise)];
+    let mut rust = WheelPreintegration::new(UNIT, noise).expect("fit");
     for t in [0.0, dt] {
         let m = WheelMeasurement::angular_velocity(t, [1.0, 1.0]);
-        records.sixteen(&reading_words(&m, 3));
+        calls.push(read(&m));
         rust.integrate(&m).expect("accepted");
     }
     let ratio = dt / 0.01;
@@ -139,11 +128,13 @@ fn halving_row(dt: f64) -> Row {
         place: "halving count just above a power of two",
         input: format!("dt {dt}, ratio {ratio}, radius 1, track 1, wheel noise 1, rates 1, 1"),
         rust,
-        records,
-        lines: 4,
+        calls,
         read: |line| {
-            let k = least_halvings(f64::from_bits(line.after("dt", 1)[0]) / 0.01);
-            format!("{k} halvings, variance of y {}", numbers(&line.after("covariance", 9)[4..5]))
+            unless_refused(line, |line| {
+                let covariance = line.behind(SETTINGS + 3).take(9);
+                let k = least_halvings(line.floats(1)[0] / 0.01);
+                format!("{k} halvings, variance of y {}", numbers(&covariance[4..5]))
+            })
         },
     }
 }
