@@ -3,16 +3,20 @@
 
 No expected value comes from the code under test. Whole numbers, roots and the f64s of references are rounded here from exact fractions,
 ties to even; roots come from whole-number square roots; sines and cosines are Taylor sums of 90 decimal digits; tick differences and
-halving counts are the words of 01 in whole numbers and fractions. Of `math` only isqrt and floor are used, which are exact.
+halving counts are the words of 01 in whole numbers and fractions. Of `math` only isqrt and floor are used, which are exact. The evaluation
+of docs/SINCOS.md is that of tools/wheel_cases.py.
 
 The list is fixed: its random part is a linear congruential generator that starts from the same number. Run it from anywhere, with no
 arguments.
 """
 import math
+import sys
 from decimal import Decimal, getcontext
 from fractions import Fraction
 
-from parts import write
+sys.dont_write_bytecode = True
+from parts import of_bits, write
+from wheel_cases import sine_cosine
 
 getcontext().prec = 90
 INF, NAN, SIGN = 0x7FF0000000000000, 0x7FF8000000000000, 1 << 63
@@ -199,14 +203,16 @@ def angles():
     return xs
 
 
-# 01: "Runs hold it within 2e-15 of Rust's." What is held is the distance to the f64 nearest to the sum, which is at most 2^-54 from it, and the difference of
-# two f64s so close has no error that counts beside another 2^-54.
+# 01: "Runs hold it within 2e-15 of Rust's." Here it is held so near to the true values, by the f64 that is nearest to each: that lies at most 2^-54 from it, and
+# the difference of two f64s so close has no error that counts beside another 2^-54.
 TOLERANCE = nearest(Fraction("2e-15") - power(-53))
 
 
 def turns():
+    """Each angle twice: by docs/SINCOS.md, bit for bit, and near the true values."""
     cases = []
     for x in angles():
+        cases += [([4, x], [0, *sine_cosine(of_bits(x))])]
         sine, cosine = (nearest(Fraction(d)) for d in taylor(value(x)))
         cases += [([104, x, TOLERANCE, sine, TOLERANCE, cosine], [0, sine, cosine])]
     return cases

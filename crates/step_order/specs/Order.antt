@@ -1,4 +1,5 @@
--- 01, The wheel step: the order in which a reading is refused before anything is composed.
+-- 01, The wheel step: the order in which a reading is refused, from its first line to its last. It stands in three parts, since after the first a reading with none
+-- before it is the baseline, and after the second the motion is composed.
 use mathlib.Core.Bool.{not, _||_}
 use mathlib.Core.List.{[], _∷_}
 use lib.Ieee.{Float}
@@ -13,7 +14,9 @@ use Rattle.drive.specs.Drive.{validDrive}
 use Rattle.drive.specs.Noise.{validNoise}
 use Rattle.drive.specs.Readings.{finiteMeasurement, sameKind}
 use Rattle.drive.specs.Refusals.{saidRefusal}
+use Rattle.interval.specs.declared.Accumulated.{Accumulated}
 use Rattle.interval.specs.declared.Interval.{Interval}
+use Rattle.interval.specs.Accumulated.{finiteAccumulated}
 use Rattle.step_order.specs.declared.Outcome.{Outcome}
 use Rattle.step_order.specs.declared.Outcome.the-variants as O
 
@@ -30,8 +33,8 @@ readingFits d n m =
     refusal 2 when not (finiteMeasurement m) else
     gives tt
 
--- "After that 3, 4, 5, 8, 2 for the result", as far as nothing is composed: "If wz·h is finite and above 4 in size: refused 8; if not finite: 2", and 01, Refusal
--- numbers: "A stored heading above 4 in size is refused 8 with the step's 8." h is the stored heading.
+-- "After that 3, 4, 5, 8, 2 ..": "If wz·h is finite and above 4 in size: refused 8; if not finite: 2", and 01, Refusal numbers: "A stored heading above 4 in size
+-- is refused 8 with the step's 8." h is the stored heading.
 unfoldable pub intervalFits : (h : Float) → (last m : WheelMeasurement) → Interval → Said (Unit {0})
 intervalFits h last m i =
     refused 3 (m .timestamp ∷ last .timestamp ∷ []) when i .dt <ᶠ +0 else
@@ -39,4 +42,10 @@ intervalFits h last m i =
     refusal 5 when not (sameKind (last .reading) (m .reading)) else
     refusal 8 when aboveFour (i .angle) || aboveFour h else
     refusal 2 when not (finite (i .angle)) else
+    gives tt
+
+-- ".. for the result": "motion, covariance and (added) the new total dt must be finite, else 2"
+abbrev pub resultFits : Accumulated → Said (Unit {0})
+resultFits a =
+    refusal 2 when not (finiteAccumulated a) else
     gives tt

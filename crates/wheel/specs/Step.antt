@@ -1,14 +1,12 @@
 -- 01, The wheel step: what a reading that came through the order makes of the state.
-use mathlib.Core.Bool.{not}
-use Rattle.number.specs.Float.{_when_else_}
-use Rattle.number.specs.Said.{Said, gives, refused, Told, accepts, refuses}
+use Rattle.number.specs.Said.{Said, gives, refused, Told, accepts}
 use Rattle.planar.specs.Motion.{heading}
 use Rattle.drive.specs.declared.WheelMeasurement.{WheelMeasurement}
 use Rattle.interval.specs.declared.Accumulated.{Accumulated}
 use Rattle.interval.specs.declared.Interval.{Interval}
 use Rattle.interval.specs.Interval.{intervalOf}
-use Rattle.interval.specs.Accumulated.{finiteAccumulated, advanced}
-use Rattle.step_order.specs.Order.{readingFits, intervalFits}
+use Rattle.interval.specs.Accumulated.{advanced}
+use Rattle.step_order.specs.Order.{readingFits, intervalFits, resultFits}
 use Rattle.wheel.specs.declared.Last.{Last}
 use Rattle.wheel.specs.declared.Last.the-variants.{Nothing, At}
 use Rattle.wheel.specs.declared.WheelPreintegration.{WheelPreintegration}
@@ -23,13 +21,13 @@ unlessRefused (gives u) s next = next
 abbrev pub advancedBy : WheelPreintegration → Interval → Accumulated
 advancedBy s i = advanced (s .accumulated) (s .settings .drive) (s .settings .noise) i
 
--- "Result: motion, covariance and (added) the new total dt must be finite, else 2."
 unfoldable pub stepFrom : WheelPreintegration → WheelMeasurement → WheelMeasurement → Told WheelPreintegration
 stepFrom s last m =
     let i = intervalOf (s .settings .drive) last m in
+    let a = advancedBy s i in
     unlessRefused (intervalFits (heading (s .accumulated .motion)) last m i) s (
-    refuses 2 s when not (finiteAccumulated (advancedBy s i)) else
-    accepts (moved s (advancedBy s i) m))
+    unlessRefused (resultFits a) s (
+    accepts (moved s a m)))
 
 -- "with no earlier reading, it becomes the baseline and nothing else changes"
 abbrev pub after : Last → WheelPreintegration → WheelMeasurement → Told WheelPreintegration
