@@ -3,8 +3,8 @@ use mathlib.Core.Path.{_≡_, refl, sym, ap, _∙_}
 use Prim.Native.Nat.{ℕ, _+_, _*_, _<_, _≤_}
 use native.Mathlib.Nat.{mul-comm, mul-assoc, mul-left-comm, add-mul, mul-lt-mul-of-pos-right, lt-of-mul-lt-mul-right}
 use native.Mathlib.Omega.{arith}
-use mathlib.Core.Bool.{Bool, true, false, not, true≢false, false≢true, Bool·not-not}
-use borrow.Author.Tests.{ltb-true, ltb-false, lt-ltb, le-ltb, eqb-false, eq-eqb, ne-eqb}
+use mathlib.Core.Bool.{true, false, not, true≢false, false≢true, Bool·not-not}
+use borrow.Author.Tests.{ltb-true, ltb-false, lt-ltb, le-ltb, eqb-false, eq-eqb}
 use lib.Ieee as Ieee
 use lib.Ieee.{Float, nan, inf, fin, isNan}
 use lib.Ieee.Positive.{den, den-pos}
@@ -30,24 +30,6 @@ unfolding Ieee.eq isNan
 pub differs-from-itself : (a : Float) → Ieee.ne a a ≡ isNan a
 unfolding Ieee.ne
 differs-from-itself a = ap not (=ᶠ-reflexive a) ∙ Bool·not-not (isNan a)
-
--- a value above another does not equal it
-pub <ᶠ-unequal : (a b : Float) → (b <ᶠ a) ≡ true → (a =ᶠ b) ≡ false
-unfolding Ieee.lt Ieee.eq
-<ᶠ-unequal nan b h = refl
-<ᶠ-unequal (inf s) nan h = refl
-<ᶠ-unequal (inf true) (inf true) h = absurd (false≢true h)
-<ᶠ-unequal (inf true) (inf false) h = refl
-<ᶠ-unequal (inf false) (inf true) h = refl
-<ᶠ-unequal (inf false) (inf false) h = absurd (false≢true h)
-<ᶠ-unequal (inf s) (fin t n d) h = refl
-<ᶠ-unequal (fin s m e) nan h = refl
-<ᶠ-unequal (fin s m e) (inf t) h = refl
-<ᶠ-unequal (fin s m e) (fin t n d) h =
-    let a = fin s m e in
-    let b = fin t n d in
-    let l : cross b a < cross a b = ltb-true (cross b a) (cross a b) (sym (<ᶠ-cross b a refl refl) ∙ h) in
-    =ᶠ-cross a b refl refl ∙ ne-eqb (cross a b) (cross b a) (omega arith)
 
 -- where no NaN stands, a value that is neither below another nor equal to it is above it
 pub <ᶠ-connected : (a b : Float) → isNan a ≡ false → isNan b ≡ false → (a <ᶠ b) ≡ false → (a =ᶠ b) ≡ false → (b <ᶠ a) ≡ true

