@@ -82,15 +82,17 @@ fn ask_information(kind: u64) {
     let informed = m.information();
     let outcome = informed.outcome;
     let matrix = informed.matrix;
-    cases::print_word(
-        match outcome {
-            Information::Given => 0,
-            Information::NoInformation => 9,
-            Information::AngleRange => 8,
-            Information::NonFinite => 2,
-        },
-    );
+    cases::print_word(information_number(outcome));
     cases::print_near(kind, &matrix);
+}
+
+fn information_number(outcome: Information) -> u64 {
+    match outcome {
+        Information::Given => 0,
+        Information::NoInformation => 9,
+        Information::AngleRange => 8,
+        Information::NonFinite => 2,
+    }
 }
 
 fn ask_composed(kind: u64) {
@@ -132,14 +134,16 @@ fn ask_still_information() {
     let informed = stationary_information::information(f);
     let outcome = informed.outcome;
     cases::print_word(f.is_valid() as u64);
-    cases::print_word(
-        match outcome {
-            stationary_information::Outcome::Given => 0,
-            stationary_information::Outcome::InvalidFactor => 11,
-            stationary_information::Outcome::NonFinite => 2,
-        },
-    );
+    cases::print_word(still_number(outcome));
     print_info(informed.info);
+}
+
+fn still_number(outcome: stationary_information::Outcome) -> u64 {
+    match outcome {
+        stationary_information::Outcome::Given => 0,
+        stationary_information::Outcome::InvalidFactor => 11,
+        stationary_information::Outcome::NonFinite => 2,
+    }
 }
 
 fn ask_still_composed() {
@@ -317,10 +321,7 @@ fn print_still(f: StationaryFactor) {
     cases::print_word(f.from_idx as u64);
     cases::print_word(f.to_idx as u64);
     cases::print_numbers(&[f.span_s]);
-    match mean {
-        GyroMean::Unmeasured => cases::print_word(0),
-        GyroMean::Measured(g) => print_gyro(g),
-    }
+    print_mean(mean);
     cases::print_numbers(
         &[
             c.gyro_noise,
@@ -337,6 +338,13 @@ fn print_still(f: StationaryFactor) {
         ],
     );
     print_limit(limit);
+}
+
+fn print_mean(mean: GyroMean) {
+    match mean {
+        GyroMean::Unmeasured => cases::print_word(0),
+        GyroMean::Measured(g) => print_gyro(g),
+    }
 }
 
 fn print_gyro(g: StationaryGyro) {

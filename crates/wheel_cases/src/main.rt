@@ -43,14 +43,8 @@ fn main() {
             return;
         }
         cases::begin_line(kind);
-        let call = kind % 100;
-        state = after_record(call, state);
-        if (call < 2) | (7 < call) {
-            let settings = state.settings;
-            ask(kind, settings.drive, state.motion());
-        } else {
-            print_state(kind, state);
-        }
+        state = after_record(kind % 100, state);
+        print_after(kind, state);
         cases::end_line();
         turns -= 1;
     }
@@ -66,16 +60,20 @@ fn after_record(call: u64, before: WheelPreintegration) -> WheelPreintegration {
     }
 }
 
+fn print_after(kind: u64, state: WheelPreintegration) {
+    let call = kind % 100;
+    let settings = state.settings;
+    if (call < 2) | (7 < call) {
+        return ask(kind, settings.drive, state.motion());
+    }
+    print_state(kind, state)
+}
+
 // ---- the calls that give a state
 
 fn begun(call: u64) -> WheelPreintegration {
     let drive = read_drive();
-    let noise = if call == 2 {
-        read_noise()
-    } else {
-        WheelNoise::DEFAULT
-    };
-    let made = WheelPreintegration::new(drive, noise);
+    let made = WheelPreintegration::new(drive, read_noise(call));
     let outcome = made.outcome;
     print_outcome(outcome);
     made.state
@@ -146,14 +144,16 @@ fn ask_jacobian(drive: DifferentialDrive) {
 fn ask_composed(kind: u64, stored: PlanarMotion) {
     let composed = stored.compose(read_motion());
     let outcome = composed.outcome;
-    cases::print_word(
-        match outcome {
-            planar::Outcome::Accepted => 0,
-            planar::Outcome::NonFinite => 2,
-            planar::Outcome::AngleRange => 8,
-        },
-    );
+    cases::print_word(number_of(outcome));
     print_motion(kind, composed.motion);
+}
+
+fn number_of(outcome: planar::Outcome) -> u64 {
+    match outcome {
+        planar::Outcome::Accepted => 0,
+        planar::Outcome::NonFinite => 2,
+        planar::Outcome::AngleRange => 8,
+    }
 }
 
 // ---- what a record holds behind its kind
@@ -169,7 +169,10 @@ fn read_drive() -> DifferentialDrive {
     }
 }
 
-fn read_noise() -> WheelNoise {
+fn read_noise(call: u64) -> WheelNoise {
+    if call == 3 {
+        return WheelNoise::DEFAULT;
+    }
     let wheel_rate = cases::read_f64();
     let lateral_velocity = cases::read_f64();
     WheelNoise {
@@ -186,7 +189,7 @@ fn read_motion() -> PlanarMotion {
 
 fn read_state() -> WheelPreintegration {
     let drive = read_drive();
-    let noise = read_noise();
+    let noise = read_noise(2);
     let motion = read_motion();
     let dt = cases::read_f64();
     let last = read_last(cases::read_word());

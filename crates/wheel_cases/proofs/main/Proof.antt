@@ -27,14 +27,8 @@ begin-line-requires c κs = tt
 after-record-requires : tie.Need-after-record-requires Inv-loop μ-loop
 after-record-requires c κs = tt
 
-motion-requires : tie.Need-motion-requires Inv-loop μ-loop
-motion-requires c κs = tt
-
-ask-requires : tie.Need-ask-requires Inv-loop μ-loop
-ask-requires c κs = tt
-
-print-state-requires : tie.Need-print-state-requires Inv-loop μ-loop
-print-state-requires c κs = tt
+print-after-requires : tie.Need-print-after-requires Inv-loop μ-loop
+print-after-requires c κs = tt
 
 end-line-requires : tie.Need-end-line-requires Inv-loop μ-loop
 end-line-requires c κs = tt
@@ -63,9 +57,7 @@ main-spec =
     returns
     begin-line-requires
     after-record-requires
-    motion-requires
-    ask-requires
-    print-state-requires
+    print-after-requires
     end-line-requires
     sub-turns
     loop-less
