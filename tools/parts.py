@@ -28,8 +28,8 @@ def in_bytes(record, _):
 
 
 def in_text(record, line):
-    words = [word(x) if x == x else 0x7FF8000000000000 for x in line]
-    return (f"{record[0]}" + "".join(f" {w:016x}" for w in words) + "\n").encode()
+    words = [word(x) if x == x else 0x7FF8000000000000 for x in (record[0], *line)]
+    return ("".join(f" {w:016x}" for w in words) + "\n").encode()
 
 
 def write(crate, cases):

@@ -1,5 +1,5 @@
 // What every program of cases shares. In goes a record at a time, its kind and what the kind has behind it, each a little-endian word of 64 bits; past the end
-// of the input every word is 0, which is the kind of no record. Out comes a line for each: the kind, and words as 16 hexadecimal digits, each behind a space.
+// of the input every word is 0, which is the kind of no record. Out comes a line for each: its kind and words, as 16 hexadecimal digits behind a space.
 use inertial::ImuCalib;
 use libc::STDIN_FILENO;
 use libc::STDOUT_FILENO;
@@ -51,10 +51,6 @@ pub fn read_calib() -> ImuCalib {
 }
 
 // ---- printing
-
-pub fn begin_line(kind: u64) {
-    io::print_decimal(STDOUT_FILENO, kind);
-}
 
 pub fn end_line() {
     io::write_all(STDOUT_FILENO, b"\n");

@@ -24,10 +24,10 @@ use stationary::StationaryFactor;
 use stationary::StationaryGyro;
 use stationary_information::GyroRow;
 use stationary_information::StationaryInfo;
-use wheel_odom::Extrinsic;
+use wheel_factor::Extrinsic;
+use wheel_factor::WheelOdomFactor;
 use wheel_odom::Information;
 use wheel_odom::Outcome;
-use wheel_odom::WheelOdomFactor;
 use wheel_odom::WheelOdomMeasurement;
 
 // A proved loop has to end, and nothing says that the input does. So the loop counts its turns down, from a number that no run uses up.
@@ -38,7 +38,7 @@ fn main() {
         if kind == 0 {
             return;
         }
-        cases::begin_line(kind);
+        cases::print_word(kind);
         ask(kind);
         cases::end_line();
         turns -= 1;

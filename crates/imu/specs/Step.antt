@@ -7,11 +7,12 @@ use Rattle.number.specs.Constants.{zero as +0}
 use Rattle.number.specs.Said.{Told, accepts, refuses}
 use Rattle.sincos.specs.Turn.{aboveFour}
 use Rattle.vec3.specs.Vector.{vectorDifference, vectorScaled}
-use Rattle.mat3.specs.Matrix.{product, transform}
+use Rattle.mat3.specs.Matrix.{product}
 use Rattle.inertial.specs.declared.ImuMeasurement.{ImuMeasurement}
 use Rattle.rotation.specs.declared.Increment.{Increment}
 use Rattle.rotation.specs.Rotation.{hatOf, incrementOf}
-use Rattle.imu_step.specs.Parts.{covarianceAfter, positionAfter, positionByAccel, positionByGyro, rotationAfter, rotationByGyro, velocityAfter, velocityByAccel, velocityByGyro}
+use Rattle.imu_step.specs.declared.Motion.{Motion}
+use Rattle.imu_step.specs.Parts.{covarianceAfter, motionAfter, positionByAccel, positionByGyro, rotationByGyro, velocityByAccel, velocityByGyro}
 use Rattle.imu.specs.declared.PreintegratedImu.{PreintegratedImu}
 use Rattle.imu.specs.State.{finiteMeasurement, finiteState, walked}
 
@@ -31,16 +32,19 @@ accelIn s m = vectorDifference (m .accel) (s .bias .accel)
 abbrev pub rotatedHat : PreintegratedImu → (a : List Float) → List Float
 rotatedHat s a = product (s .«delta_rotation») (hatOf a)
 
+abbrev pub motionOf : PreintegratedImu → Motion
+motionOf s = record { rotation = s .«delta_rotation»; velocity = s .«delta_velocity»; position = s .«delta_position» }
+
 -- with C′ as its covariance
 unfoldable pub advancedWith : (C′ : List Float) → PreintegratedImu → Increment → (a : List Float) → Float → PreintegratedImu
 advancedWith C′ s d a dt =
     let ΔR = s .«delta_rotation» in
     let G = rotatedHat s a in
-    let u = transform ΔR a in
+    let moved = motionAfter (motionOf s) d a dt in
     record {
-      «delta_rotation» = rotationAfter ΔR d;
-      «delta_velocity» = velocityAfter (s .«delta_velocity») u dt;
-      «delta_position» = positionAfter (s .«delta_position») (s .«delta_velocity») u dt;
+      «delta_rotation» = moved .rotation;
+      «delta_velocity» = moved .velocity;
+      «delta_position» = moved .position;
       dt = s .dt ⊕ dt;
       bias = s .bias;
       calib = s .calib;

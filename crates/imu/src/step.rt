@@ -8,6 +8,7 @@ use crate::Integrated;
 use crate::Outcome;
 use crate::PreintegratedImu;
 use crate::state;
+use imu_step::Motion;
 use inertial::ImuMeasurement;
 use rotation::Increment;
 
@@ -87,13 +88,20 @@ impl PreintegratedImu {
         let va = self.d_velocity_d_bias_accel;
         let pg = self.d_position_d_bias_gyro;
         let pa = self.d_position_d_bias_accel;
-        let turned = imu_step::rotation_after(rotation, d);
         let g = mat3::product(rotation, rotation::hat_of(a));
-        let u = mat3::transform(rotation, a);
+        let motion = Motion {
+            rotation,
+            velocity,
+            position,
+        };
+        let moved = imu_step::motion_after(motion, d, a, dt);
+        let delta_rotation = moved.rotation;
+        let delta_velocity = moved.velocity;
+        let delta_position = moved.position;
         PreintegratedImu {
-            delta_rotation: turned,
-            delta_velocity: imu_step::velocity_after(velocity, u, dt),
-            delta_position: imu_step::position_after(position, velocity, u, dt),
+            delta_rotation,
+            delta_velocity,
+            delta_position,
             dt: self.dt + dt,
             covariance: imu_step::covariance_after(&before, calib, rotation, d, g, dt),
             bias_covariance: self.walked(dt),

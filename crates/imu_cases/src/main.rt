@@ -45,7 +45,7 @@ fn main() {
         if kind == 0 {
             return;
         }
-        cases::begin_line(kind);
+        cases::print_word(kind);
         state = after_record(kind, state);
         cases::end_line();
         turns -= 1;

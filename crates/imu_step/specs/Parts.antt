@@ -10,11 +10,12 @@ use lib.Ieee.{Float}
 use Rattle.number.specs.Float.{_⊗_, _⊘_, −_}
 use Rattle.number.specs.Constants.{half}
 use Rattle.vec3.specs.Vector.{vectorSum, vectorScaled}
-use Rattle.mat3.specs.Matrix.{zeros, identity, product, transpose, sum, difference, scaled}
+use Rattle.mat3.specs.Matrix.{zeros, identity, product, transform, transpose, sum, difference, scaled}
 use Rattle.mat9.specs.Matrix.{blocks, diagonal6, transposed, product as product9, sum as sum9}
 use Rattle.inertial.specs.declared.ImuCalib.{ImuCalib}
 use Rattle.rotation.specs.declared.Increment.{Increment}
 use Rattle.rotation.specs.Rotation.{normalized}
+use Rattle.imu_step.specs.declared.Motion.{Motion}
 
 -- ½·dt²
 abbrev pub halfSquare : Float → Float
@@ -82,3 +83,8 @@ velocityAfter Δv u dt = vectorSum Δv (vectorScaled u dt)
 
 unfoldable pub rotationAfter : (ΔR : List Float) → Increment → List Float
 rotationAfter ΔR d = normalized (product ΔR (d .exp))
+
+unfoldable pub motionAfter : Motion → Increment → (a : List Float) → Float → Motion
+motionAfter m d a dt =
+    let u = transform (m .rotation) a in
+    record { rotation = rotationAfter (m .rotation) d; velocity = velocityAfter (m .velocity) u dt; position = positionAfter (m .position) (m .velocity) u dt }

@@ -2,9 +2,16 @@
 // kornia's imu.rs.
 ghost use mathlib.Core.Path.{_≡_};
 ghost use Rattle.imu_step.specs.Lean.{leanCovarianceAfter};
-ghost use Rattle.imu_step.specs.Parts.{halfSquare, lessHalfSquare, lessTimes, matrixA, matrixB, matrixN, positionAfter, positionByAccel, positionByGyro, rotationAfter, rotationByGyro, velocityAfter, velocityByAccel, velocityByGyro};
+ghost use Rattle.imu_step.specs.Parts.{halfSquare, lessHalfSquare, lessTimes, matrixA, matrixB, matrixN, motionAfter, positionAfter, positionByAccel, positionByGyro, rotationAfter, rotationByGyro, velocityAfter, velocityByAccel, velocityByGyro};
 use inertial::ImuCalib;
 use rotation::Increment;
+
+// Accumulated rotation, velocity and position.
+pub struct Motion {
+    pub rotation: [f64; 9],
+    pub velocity: [f64; 3],
+    pub position: [f64; 3],
+}
 
 pub fn half_square(dt: f64) -> f64
     ensures { λ r. ⌜ r ≡ halfSquare dt ⌝ }
@@ -131,7 +138,7 @@ pub fn rotation_by_gyro(rg: [f64; 9], d: Increment, dt: f64) -> [f64; 9]
     )
 }
 
-pub fn position_after(position: [f64; 3], velocity: [f64; 3], u: [f64; 3], dt: f64) -> [f64; 3]
+fn position_after(position: [f64; 3], velocity: [f64; 3], u: [f64; 3], dt: f64) -> [f64; 3]
     ensures { λ r. ⌜ r ≡ positionAfter position velocity u dt ⌝ }
 {
     vec3::vector_sum(
@@ -140,16 +147,32 @@ pub fn position_after(position: [f64; 3], velocity: [f64; 3], u: [f64; 3], dt: f
     )
 }
 
-pub fn velocity_after(velocity: [f64; 3], u: [f64; 3], dt: f64) -> [f64; 3]
+fn velocity_after(velocity: [f64; 3], u: [f64; 3], dt: f64) -> [f64; 3]
     ensures { λ r. ⌜ r ≡ velocityAfter velocity u dt ⌝ }
 {
     vec3::vector_sum(velocity, vec3::vector_scaled(u, dt))
 }
 
 // Composed, then brought back onto the rotations, so that rounding does not drift away from them.
-pub fn rotation_after(rotation: [f64; 9], d: Increment) -> [f64; 9]
+fn rotation_after(rotation: [f64; 9], d: Increment) -> [f64; 9]
     ensures { λ r. ⌜ r ≡ rotationAfter rotation d ⌝ }
 {
     let exp = d.exp;
     rotation::normalized(mat3::product(rotation, exp))
+}
+
+// The motion after dt seconds of the acceleration a and the turn d. Every line uses values from before the step.
+pub fn motion_after(before: Motion, d: Increment, a: [f64; 3], dt: f64) -> Motion
+    ensures { λ r. ⌜ r ≡ motionAfter before d a dt ⌝ }
+{
+    let rotation = before.rotation;
+    let velocity = before.velocity;
+    let position = before.position;
+    let turned = rotation_after(rotation, d);
+    let u = mat3::transform(rotation, a);
+    Motion {
+        rotation: turned,
+        velocity: velocity_after(velocity, u, dt),
+        position: position_after(position, velocity, u, dt),
+    }
 }

@@ -1,4 +1,5 @@
-// The plain records of the inertial parts: a reading, the biases, the noise densities. From kornia's imu.rs.
+// The plain records of the inertial parts: a reading, the biases, the noise densities; and samples, which are readings in flat numbers. From kornia's imu.rs.
+pub mod samples;
 
 // One reading: its time in seconds, angular velocity in rad/s and acceleration in m/s², both in the body frame.
 pub struct ImuMeasurement {
@@ -27,4 +28,11 @@ pub struct ImuCalib {
     pub accel_noise: f64,
     pub gyro_bias_noise: f64,
     pub accel_bias_noise: f64,
+}
+
+// How many samples the numbers hold, each case named as in 01's table of refusals.
+pub enum Counted {
+    Count(usize),
+    BadLength,
+    TooMany,
 }

@@ -20,7 +20,7 @@ fn main() {
         if kind == 0 {
             return;
         }
-        cases::begin_line(kind);
+        cases::print_word(kind);
         ask(kind);
         cases::end_line();
         turns -= 1;

@@ -42,7 +42,7 @@ fn main() {
         if kind == 0 {
             return;
         }
-        cases::begin_line(kind);
+        cases::print_word(kind);
         state = after_record(kind % 100, state);
         print_after(kind, state);
         cases::end_line();

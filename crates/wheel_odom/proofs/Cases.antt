@@ -5,8 +5,6 @@ use lib.Dec.{eqb}
 use lib.Ieee.{Float}
 use Rattle.number.specs.Float.{_when_else_}
 use Rattle.number.specs.Said.{Said, gives, refused, Told}
-use Rattle.wheel_odom.specs.declared.ComposedFactor.{ComposedFactor}
-use Rattle.wheel_odom.specs.declared.WheelOdomFactor.{WheelOdomFactor}
 use Rattle.wheel_odom.specs.declared.Information.{Information}
 use Rattle.wheel_odom.specs.declared.Information.the-variants as I
 use Rattle.wheel_odom.specs.declared.Informed.{Informed}
@@ -16,7 +14,6 @@ use Rattle.wheel_odom.specs.declared.Outcome.the-variants as O
 use Rattle.wheel_odom.specs.declared.WheelOdomMeasurement.{WheelOdomMeasurement}
 use Rattle.wheel_odom.specs.Measurement.{saidOutcome, toldMeasurement}
 use Rattle.wheel_odom.specs.Information.{saidInformation, toldInformed}
-use Rattle.wheel_odom.specs.Factor.{toldFactor}
 
 -- what can be read back is determined
 determined : {A B : Type 0} (said : B → A) (back : A → B) → ((x : B) → back (said x) ≡ x) → (x y : B) → said x ≡ said y → x ≡ y
@@ -57,8 +54,3 @@ pub informed-determined : (a b : Informed) → toldInformed a ≡ toldInformed b
 informed-determined a b e =
     let same = information-determined (a .outcome) (b .outcome) (ap (λ (t : Told (List Float)). t .outcome) e) in
     λ i. record { outcome = same i; matrix = e i .value }
-
-pub factor-determined : (a b : ComposedFactor) → toldFactor a ≡ toldFactor b → a ≡ b
-factor-determined a b e =
-    let same = outcome-determined (a .outcome) (b .outcome) (ap (λ (t : Told WheelOdomFactor). t .outcome) e) in
-    λ i. record { outcome = same i; factor = e i .value }

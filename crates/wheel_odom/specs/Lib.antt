@@ -1,4 +1,3 @@
--- Wheel factors, in 01's order: the measurement, its information, the factor.
+-- Wheel odometry, in 01's order: the measurement, its information.
 pub mod Measurement
 pub mod Information
-pub mod Factor

@@ -60,10 +60,9 @@ pub struct Line(std::vec::IntoIter<u64>);
 
 impl Line {
     fn read(text: &str) -> (u64, Self) {
-        let mut words = text.split(' ');
-        let kind = words.next().and_then(|w| w.parse().ok()).expect("a kind");
-        let words: Vec<_> = words.map(|w| u64::from_str_radix(w, 16).expect("a word")).collect();
-        (kind, Self(words.into_iter()))
+        let mut words = text.split_whitespace().map(|w| u64::from_str_radix(w, 16).expect("a word"));
+        let kind = words.next().expect("a kind");
+        (kind, Self(words.collect::<Vec<_>>().into_iter()))
     }
 
     /// The next n words, or as many as are left.
@@ -91,8 +90,8 @@ impl Line {
 
 /// A line as the programs write it.
 pub fn line(kind: u64, words: &[u64]) -> String {
-    let words: String = words.iter().map(|w| format!(" {w:016x}")).collect();
-    format!("{kind}{words}\n")
+    let words: String = [kind].iter().chain(words).map(|w| format!(" {w:016x}")).collect();
+    words + "\n"
 }
 
 /// The bits of a number; of any NaN, those of one.

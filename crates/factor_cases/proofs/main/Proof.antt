@@ -18,8 +18,8 @@ read-word-requires c κs = tt
 returns : tie.Need-returns Inv-loop μ-loop
 returns c = tt
 
-begin-line-requires : tie.Need-begin-line-requires Inv-loop μ-loop
-begin-line-requires c κs = tt
+print-word-requires : tie.Need-print-word-requires Inv-loop μ-loop
+print-word-requires c κs = tt
 
 ask-requires : tie.Need-ask-requires Inv-loop μ-loop
 ask-requires c κs = tt
@@ -48,7 +48,7 @@ main-spec =
     loop-holds
     read-word-requires
     returns
-    begin-line-requires
+    print-word-requires
     ask-requires
     end-line-requires
     sub-turns

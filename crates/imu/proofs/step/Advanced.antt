@@ -3,24 +3,22 @@ use mathlib.Core.Path.{_≡_}
 use mathlib.Core.List.{List}
 use lib.Ieee.{Float}
 use Rattle.number.specs.Float.{_⊕_}
-use Rattle.mat3.specs.Matrix.{product, transform}
+use Rattle.mat3.specs.Matrix.{product}
 use Rattle.imu.specs.declared.PreintegratedImu.{PreintegratedImu}
 use Rattle.rotation.specs.declared.Increment.{Increment}
 use Rattle.rotation.specs.Rotation.{hatOf}
 use Rattle.imu.specs.State.{walked}
+use Rattle.imu_step.specs.declared.Motion.{Motion}
 use Rattle.imu_step.specs.Lean.{leanCovarianceAfter}
-use Rattle.imu_step.specs.Parts.{positionAfter, positionByAccel, positionByGyro, rotationAfter, rotationByGyro, velocityAfter, velocityByAccel, velocityByGyro}
+use Rattle.imu_step.specs.Parts.{motionAfter, positionByAccel, positionByGyro, rotationByGyro, velocityByAccel, velocityByGyro}
 use Rattle.imu.specs.Lean.{leanAdvancedBy}
-use Rattle.imu.specs.Step.{advancedWith}
+use Rattle.imu.specs.Step.{advancedWith, motionOf}
 
 pub of-parts :
-    (s : PreintegratedImu) (d : Increment) (a : List Float) (dt : Float) {H G u R′ v′ p′ C′ B′ rg vg va pg pa : List Float}
+    (s : PreintegratedImu) (d : Increment) (a : List Float) (dt : Float) {H G C′ B′ rg vg va pg pa : List Float} {m : Motion}
     → H ≡ hatOf a
     → G ≡ product (s .«delta_rotation») H
-    → u ≡ transform (s .«delta_rotation») a
-    → R′ ≡ rotationAfter (s .«delta_rotation») d
-    → v′ ≡ velocityAfter (s .«delta_velocity») u dt
-    → p′ ≡ positionAfter (s .«delta_position») (s .«delta_velocity») u dt
+    → m ≡ motionAfter (motionOf s) d a dt
     → C′ ≡ leanCovarianceAfter (s .covariance) (s .calib) (s .«delta_rotation») d G dt
     → B′ ≡ walked s dt
     → rg ≡ rotationByGyro (s .«d_rotation_d_bias_gyro») d dt
@@ -29,9 +27,9 @@ pub of-parts :
     → pg ≡ positionByGyro (s .«d_position_d_bias_gyro») (s .«d_velocity_d_bias_gyro») (s .«d_rotation_d_bias_gyro») G dt
     → pa ≡ positionByAccel (s .«d_position_d_bias_accel») (s .«d_velocity_d_bias_accel») (s .«delta_rotation») dt
     → _≡_ {A = PreintegratedImu} (record {
-      «delta_rotation» = R′;
-      «delta_velocity» = v′;
-      «delta_position» = p′;
+      «delta_rotation» = m .rotation;
+      «delta_velocity» = m .velocity;
+      «delta_position» = m .position;
       dt = s .dt ⊕ dt;
       bias = s .bias;
       calib = s .calib;
@@ -44,4 +42,4 @@ pub of-parts :
       «d_position_d_bias_accel» = pa;
     }) (leanAdvancedBy s d a dt)
 unfolding leanAdvancedBy advancedWith
-of-parts s d a dt eH eG eu eR eV eP eC eB erg evg eva epg epa = rw (eR, eV, eP, eC, eB, erg, evg, eva, epg, epa, eG, eu, eH)
+of-parts s d a dt eH eG em eC eB erg evg eva epg epa = rw (em, eC, eB, erg, evg, eva, epg, epa, eG, eH)

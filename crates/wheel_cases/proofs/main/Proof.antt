@@ -21,8 +21,8 @@ read-word-requires c κs = tt
 returns : tie.Need-returns Inv-loop μ-loop
 returns c = tt
 
-begin-line-requires : tie.Need-begin-line-requires Inv-loop μ-loop
-begin-line-requires c κs = tt
+print-word-requires : tie.Need-print-word-requires Inv-loop μ-loop
+print-word-requires c κs = tt
 
 after-record-requires : tie.Need-after-record-requires Inv-loop μ-loop
 after-record-requires c κs = tt
@@ -55,7 +55,7 @@ main-spec =
     loop-holds
     read-word-requires
     returns
-    begin-line-requires
+    print-word-requires
     after-record-requires
     print-after-requires
     end-line-requires

@@ -4,23 +4,14 @@ use borrow.Author.Needs.{needs}
 use Rattle.imu.proofs.PreintegratedImu.advanced_by.Statement.{statement}
 use Rattle.imu.proofs.PreintegratedImu.advanced_by.Tie as tie
 
-rotation-after-requires : tie.Need-rotation-after-requires
-rotation-after-requires c κs = search needs
-
 hat-of-requires : tie.Need-hat-of-requires
 hat-of-requires c κs = search needs
 
 product-requires : tie.Need-product-requires
 product-requires c κs = search needs
 
-transform-requires : tie.Need-transform-requires
-transform-requires c κs = search needs
-
-velocity-after-requires : tie.Need-velocity-after-requires
-velocity-after-requires c κs = search needs
-
-position-after-requires : tie.Need-position-after-requires
-position-after-requires c κs = search needs
+motion-after-requires : tie.Need-motion-after-requires
+motion-after-requires c κs = search needs
 
 covariance-after-requires : tie.Need-covariance-after-requires
 covariance-after-requires c κs = search needs
@@ -46,15 +37,13 @@ position-by-accel-requires c κs = search needs
 returns : tie.Need-returns
 returns c =
     let p = c .before .before in
-    let q = p .before .before .before .before .before .before .before .before .before .before in
+    let q = p .before .before .before .before .before .before in
+    let m = q .before .before .before .before .before .before in
     of-parts _ _ _ _
-    (q .before .before .before .hat-of .ensures)
-    (q .before .before .product .ensures)
-    (q .before .transform .ensures)
-    (q .before .before .before .before .rotation-after .ensures)
-    (q .velocity-after .ensures)
-    (p .before .before .before .before .before .before .before .before .before .position-after .ensures)
-    (p .before .before .before .before .before .before .covariance-after .ensures)
+    (m .before .before .hat-of .ensures)
+    (m .before .product .ensures)
+    (m .motion-after .ensures)
+    (q .covariance-after .ensures)
     (p .before .before .before .before .before .walked .ensures)
     (p .before .before .before .before .rotation-by-gyro .ensures)
     (p .before .before .before .velocity-by-gyro .ensures)
@@ -66,12 +55,9 @@ pub advanced-by-spec : {M : Type 1} → statement M
 advanced-by-spec =
     tie.close
     (tie.spec
-    rotation-after-requires
     hat-of-requires
     product-requires
-    transform-requires
-    velocity-after-requires
-    position-after-requires
+    motion-after-requires
     covariance-after-requires
     walked-requires
     rotation-by-gyro-requires

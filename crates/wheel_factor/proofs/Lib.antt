@@ -1,0 +1,4 @@
+-- Laws that belong to no one function.
+pub mod Cases
+pub mod Laws
+mod Joined

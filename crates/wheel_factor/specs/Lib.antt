@@ -1,0 +1,2 @@
+-- The factor of a wheel measurement.
+pub mod Factor
