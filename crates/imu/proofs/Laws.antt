@@ -3,7 +3,6 @@
 -- take a small time away. Assumes nothing.
 use mathlib.Core.Path.{_≡_, refl}
 use Prim.Native.Nat.{ℕ}
-use native.Mathlib.Omega.{arith}
 use mathlib.Core.Bool.{Bool, true, false, not, _&&_, and-eq-true-iff, false≢true}
 use mathlib.Core.List.{List}
 use lib.Dec.{T}
@@ -12,6 +11,7 @@ use lib.Ieee.{Float, binary64, fits}
 use Rattle.number.specs.Float.{_⊕_, _<ᶠ_, _≤ᶠ_, _=ᶠ_, _when_else_, finite}
 use Rattle.number.specs.Constants.{zero as +0}
 use Rattle.number.specs.Said.{gives, refused, Told, accepts, refuses}
+use Rattle.number.proofs.Cases.{refused-not-given}
 use Rattle.sincos.specs.Turn.{aboveFour}
 use Rattle.number.proofs.float.Commute.{⊕-commutes}
 use Rattle.number.proofs.float.Monotone.{≤ᶠ-transitive, ⊕-monotone, finite-no-nan, not-below}
@@ -68,7 +68,7 @@ module _ (s : PreintegratedImu) (m : ImuMeasurement) (dt : Float) where
   accepted-taken = go answered
     where
       go : {x : Told PreintegratedImu} → Answered s m dt x → x .outcome ≡ gives tt → Taken s m dt
-      go (refusing n) e = let z : _≡_ {A = ℕ} 0 1 = cc in absurd (omega arith)
+      go (refusing n) e = absurd (refused-not-given e)
       go (advancing t) e = t
 
   pub accepted-advances : stepOf s m dt .outcome ≡ gives tt → stepOf s m dt .value ≡ advanced s m dt

@@ -1,1 +1,2 @@
+-- What the exported functions are given.
 pub mod Exported

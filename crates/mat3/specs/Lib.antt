@@ -1,1 +1,2 @@
+-- 3×3 matrices.
 pub mod Matrix

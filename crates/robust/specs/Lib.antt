@@ -1,1 +1,2 @@
+-- The Huber limit that factors share.
 pub mod Huber

@@ -1,7 +1,6 @@
 -- When two still factors are joined, and what their join is: each test that a composition passes is read back from its being given. Of two sigmas that
 -- are finite and above 0 neither is a NaN, so the larger is one of them and below neither. Assumes nothing.
 use Prim.Native.Nat.{ℕ}
-use native.Mathlib.Omega.{arith}
 use mathlib.Core.Path.{_≡_, refl, sym}
 use mathlib.Core.Logic.{_⊎_, inl, inr}
 use mathlib.Core.Bool.{Bool, true, false, cond, not, _&&_, _||_, and-eq-true-iff, false≢true}
@@ -11,6 +10,7 @@ use borrow.Author.Tests.{eq-eqb, eqb-true, eqb-false}
 use Rattle.number.specs.Float.{finite, larger, _⊕_, _<ᶠ_, _≤ᶠ_, _when_else_}
 use Rattle.number.specs.Fit.{finitePositive}
 use Rattle.number.specs.Said.{Said, gives, refusal}
+use Rattle.number.proofs.Cases.{refused-not-given}
 use Rattle.number.proofs.float.Order.{<ᶠ-irreflexive}
 use Rattle.number.proofs.float.Monotone.{<ᶠ-≤ᶠ, not-below, finite-no-nan}
 use Rattle.robust.specs.Huber.{validHuber, joinedOf}
@@ -31,7 +31,7 @@ composed-at-shared-index a b p q e = simp (p, q, eq-eqb (a .«to_idx») (b .«fr
 
 -- what is given where a refusal stands before it has passed the refusal's test
 passed : {A : Type 0} (n : ℕ) (test : Bool) (rest : Said A) (v : A) → (refusal n when test else rest) ≡ gives v → (test ≡ false) × (rest ≡ gives v)
-passed n true rest v h = let z : _≡_ {A = ℕ} 0 1 = cc in absurd (omega arith)
+passed n true rest v h = absurd (refused-not-given h)
 passed n false rest v h = (refl, h)
 
 both : (p q : Bool) → not (p && q) ≡ false → (p ≡ true) × (q ≡ true)

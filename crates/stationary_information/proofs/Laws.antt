@@ -1,10 +1,9 @@
 -- Information is given only for a valid factor. Assumes nothing.
-use Prim.Native.Nat.{ℕ}
-use native.Mathlib.Omega.{arith}
 use mathlib.Core.Path.{_≡_, refl}
 use mathlib.Core.Bool.{Bool, true, false, not}
 use Rattle.number.specs.Float.{_when_else_}
 use Rattle.number.specs.Said.{gives, Told, refuses}
+use Rattle.number.proofs.Cases.{refused-not-given}
 use Rattle.stationary.specs.declared.StationaryFactor.{StationaryFactor}
 use Rattle.stationary.specs.Factor.{validFactor}
 use Rattle.stationary_information.specs.declared.StationaryInfo.{StationaryInfo}
@@ -17,4 +16,4 @@ informed-valid f h = go (validFactor f) _ h
   where
     go : (b : Bool) (rest : Told StationaryInfo) → (refuses 11 blankInfo when not b else rest) .outcome ≡ gives tt → b ≡ true
     go true rest h = refl
-    go false rest h = let z : _≡_ {A = ℕ} 0 1 = cc in absurd (omega arith)
+    go false rest h = absurd (refused-not-given h)

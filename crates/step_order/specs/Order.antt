@@ -20,6 +20,7 @@ use Rattle.interval.specs.Accumulated.{finiteAccumulated}
 use Rattle.step_order.specs.declared.Outcome.{Outcome}
 use Rattle.step_order.specs.declared.Outcome.the-variants as O
 
+-- what an outcome says: a reading that is accepted gives nothing beside the state
 abbrev pub saidOutcome : Outcome → Said (Unit {0})
 saidOutcome O.Accepted = gives tt
 saidOutcome (O.Refused r) = saidRefusal r

@@ -1,1 +1,2 @@
+-- 01, Examples to prove.
 pub mod Table

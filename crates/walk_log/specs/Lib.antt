@@ -1,1 +1,2 @@
+-- 01, The log: its layout.
 pub mod Layout

@@ -1,10 +1,11 @@
 -- What is said in 01's numbers, and the value beside it, determine the answer: each case can be read back from its number. Assumes nothing.
-use mathlib.Core.Path.{_≡_, refl, sym, ap, _∙_}
+use mathlib.Core.Path.{_≡_, refl, ap}
 use mathlib.Core.List.{List}
 use lib.Dec.{eqb}
 use lib.Ieee.{Float}
 use Rattle.number.specs.Float.{_when_else_}
 use Rattle.number.specs.Said.{Said, gives, refused, Told}
+use Rattle.number.proofs.Cases.{determined}
 use Rattle.wheel_odom.specs.declared.Information.{Information}
 use Rattle.wheel_odom.specs.declared.Information.the-variants as I
 use Rattle.wheel_odom.specs.declared.Informed.{Informed}
@@ -14,10 +15,6 @@ use Rattle.wheel_odom.specs.declared.Outcome.the-variants as O
 use Rattle.wheel_odom.specs.declared.WheelOdomMeasurement.{WheelOdomMeasurement}
 use Rattle.wheel_odom.specs.Measurement.{saidOutcome, toldMeasurement}
 use Rattle.wheel_odom.specs.Information.{saidInformation, toldInformed}
-
--- what can be read back is determined
-determined : {A B : Type 0} (said : B → A) (back : A → B) → ((x : B) → back (said x) ≡ x) → (x y : B) → said x ≡ said y → x ≡ y
-determined said back same x y e = sym (same x) ∙ ap back e ∙ same y
 
 abbrev outcome : Said (Unit {0}) → Outcome
 outcome (gives u) = O.Accepted

@@ -3,13 +3,13 @@ use mathlib.Core.Path.{_≡_, refl, subst}
 use Prim.Native.Nat.{ℕ, _+_, _*_}
 use mathlib.Core.Bool.{Bool, true, false, not, _&&_}
 use mathlib.Core.List.{List, [], _∷_}
-use native.Mathlib.Omega.{arith}
 use lib.ListN.{getD}
 use lib.Ieee.{Float, nan, binary64}
 use lib.Ieee.Fits.{mul-fits}
 use Rattle.number.specs.Float.{finite, _=ᶠ_, _when_else_}
 use Rattle.number.specs.Fit.{inverseSquare}
-use Rattle.number.specs.Said.{Said, gives, refused, accepts, refuses}
+use Rattle.number.specs.Said.{gives, accepts, refuses}
+use Rattle.number.proofs.Cases.{refused-not-given}
 use Rattle.sincos.specs.Turn.{aboveFour}
 use Rattle.mat3.specs.Matrix.{finiteMatrix}
 use Rattle.inverse3.specs.Inverse.{inverse}
@@ -22,9 +22,6 @@ use Rattle.wheel_odom.specs.declared.WheelOdomMeasurement.{WheelOdomMeas
 use Rattle.wheel_odom.specs.Measurement.{motionOf}
 use Rattle.wheel_odom.specs.Information.{finiteInformation, hasInformation, informationMatrix, informationOf, zeros36}
 use Rattle.planar_information.proofs.Corner.{both, heading-across}
-
-never : (n : ℕ) (values : List Float) → _≡_ {A = Said (Unit {0})} (refused n values) (gives tt) → ⊥
-never n values e = let z : _≡_ {A = ℕ} 0 1 = cc in omega arith
 
 -- what stands in row i and column j of the thirty-six, a row and a column
 abbrev pub at : List Float → ℕ → ℕ → Float
@@ -49,10 +46,10 @@ unfolding informationOf
 accepted m = go (hasInformation m) (aboveFour (heading (motionOf m))) (finiteInformation m)
   where
     go : (has wide finite : Bool) → let r = refuses 9 zeros36 when not has else refuses 8 zeros36 when wide else refuses 2 zeros36 when not finite else accepts (informationMatrix m) in r .outcome ≡ gives tt → (finite ≡ true) × (informationMatrix m ≡ r .value)
-    go true true finite e = absurd (never _ _ e)
+    go true true finite e = absurd (refused-not-given e)
     go true false true e = (refl, refl)
-    go true false false e = absurd (never _ _ e)
-    go false wide finite e = absurd (never _ _ e)
+    go true false false e = absurd (refused-not-given e)
+    go false wide finite e = absurd (refused-not-given e)
 
 finite-block : (m : WheelOdomMeasurement) → finiteInformation m ≡ true → finiteMatrix (planarBlock (motionOf m)) ≡ true
 finite-block m e = both (finiteMatrix (planarBlock (motionOf m))) (finite (inverseSquare (m .«z_sigma»))) (both (finiteMatrix (planarBlock (motionOf m)) && finite (inverseSquare (m .«z_sigma»))) (finite (inverseSquare (m .«tilt_sigma»))) e .0) .0

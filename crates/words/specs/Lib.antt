@@ -1,1 +1,2 @@
+-- Numbers in lent bytes.
 pub mod Words
