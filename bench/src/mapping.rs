@@ -1,7 +1,7 @@
-//! The Rust's files of wheel factors, unchanged, by path.
-#[path = "../../../shared/docs/src/crates/kornia-slam/src/mapping/robust.rs"]
+//! The Rust's files of wheel factors, unchanged, from where oracle/rust-files puts them.
+#[path = "../../oracle/target/rust/kornia-slam/src/mapping/robust.rs"]
 pub mod robust;
-#[path = "../../../shared/docs/src/crates/kornia-slam/src/mapping/stationary.rs"]
+#[path = "../../oracle/target/rust/kornia-slam/src/mapping/stationary.rs"]
 pub mod stationary;
-#[path = "../../../shared/docs/src/crates/kornia-slam/src/mapping/wheel_odom.rs"]
+#[path = "../../oracle/target/rust/kornia-slam/src/mapping/wheel_odom.rs"]
 pub mod wheel_odom;

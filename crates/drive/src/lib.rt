@@ -1,8 +1,9 @@
 // What the wheel encoders report, the drive that they sit on, and its noise. From the upper half of kornia's wheel.rs.
-pub mod kinematics;
-pub mod noise;
-pub mod readings;
-pub mod refusals;
+pub mod formula;
+mod kinematics;
+mod noise;
+mod readings;
+mod refusals;
 
 // Left and right; positive drives the base forward.
 pub enum Reading {

@@ -1,5 +1,6 @@
 -- Laws that belong to no one function.
 pub mod Cases
 pub mod Laws
-pub mod Runs
+pub mod Follows
+pub mod Statements
 pub mod Outcomes

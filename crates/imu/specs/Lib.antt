@@ -1,5 +1,6 @@
 -- 01, Inertial accumulation: the state, and one step.
 pub mod Answers
-pub mod Lean
 pub mod State
 pub mod Step
+pub mod Statements
+pub mod inside

@@ -1,12 +1,13 @@
 // Readings of an inertial sensor accumulated between two frames: rotation, velocity and position, their covariance, and how they move with the
 // biases. From kornia's imu.rs; what its readings and noise are made of is the crate `inertial`, and what stands above one step are `imu_correction`
 // and `imu_window`.
-pub mod answer;
-pub mod state;
-pub mod step;
+mod answer;
+mod state;
+mod step;
 
 use inertial::ImuBias;
 use inertial::ImuCalib;
+pub use state::is_finite_bias;
 
 pub struct PreintegratedImu {
     // Accumulated rotation, velocity and position, and the time that they took.

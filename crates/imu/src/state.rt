@@ -74,7 +74,7 @@ impl PreintegratedImu {
     }
 
     // The covariance of the biases after so many seconds more.
-    pub fn walked(self, seconds: f64) -> [f64; 36]
+    pub(crate) fn walked(self, seconds: f64) -> [f64; 36]
         ensures { λ r. ⌜ r ≡ walkedOf self seconds ⌝ }
     {
         let calib = self.calib;
@@ -139,7 +139,7 @@ fn not_made(outcome: Outcome) -> Integrated
 }
 
 // Nothing accumulated yet.
-pub fn fresh(bias: ImuBias, calib: ImuCalib) -> PreintegratedImu
+fn fresh(bias: ImuBias, calib: ImuCalib) -> PreintegratedImu
     ensures { λ r. ⌜ r ≡ freshOf bias calib ⌝ }
 {
     PreintegratedImu {
@@ -188,7 +188,7 @@ pub fn is_finite_bias(bias: ImuBias) -> bool
     vec3::is_finite_vector(gyro) & vec3::is_finite_vector(accel)
 }
 
-pub fn is_finite_measurement(m: ImuMeasurement) -> bool
+pub(crate) fn is_finite_measurement(m: ImuMeasurement) -> bool
     ensures { λ r. ⌜ r ≡ finiteMeasurement m ⌝ }
 {
     let gyro = m.gyro;

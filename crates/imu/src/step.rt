@@ -1,7 +1,7 @@
 // One step: a reading held for a time.
 ghost use mathlib.Core.Path.{_≡_};
 ghost use Rattle.imu.specs.Answers.{toldWith};
-ghost use Rattle.imu.specs.Lean.{leanAdvancedBy};
+ghost use Rattle.imu.specs.inside.Lean.{leanAdvancedBy};
 ghost use Rattle.imu.specs.State.{toldIntegrated};
 ghost use Rattle.imu.specs.Step.{accelIn, stepOf, turnIn};
 use crate::Integrated;

@@ -53,7 +53,7 @@ impl Prediction {
 pub fn delta_rotation_with_bias(state: PreintegratedImu, bias: ImuBias) -> CorrectedRotation
     ensures { λ r. ⌜ toldRotation r ≡ rotationWithBias state bias ⌝ }
 {
-    if !imu::state::is_finite_bias(bias) {
+    if !imu::is_finite_bias(bias) {
         return no_rotation(Outcome::NonFinite);
     }
     let d = rotation::increment_of(correction_turn(state, bias));
@@ -208,7 +208,7 @@ fn vector_with(
 fn corrected(bias: ImuBias, x: [f64; 3]) -> CorrectedVector
     ensures { λ r. ⌜ toldVector r ≡ correctedOf bias x ⌝ }
 {
-    if !imu::state::is_finite_bias(bias) {
+    if !imu::is_finite_bias(bias) {
         return no_vector(Outcome::NonFinite);
     }
     if !vec3::is_finite_vector(x) {

@@ -8,7 +8,7 @@ use Rattle.number.specs.Float.{finite}
 use Rattle.lean9.proofs.Agrees.{Agrees, lean-agrees}
 use Rattle.inertial.specs.declared.ImuCalib.{ImuCalib}
 use Rattle.rotation.specs.declared.Increment.{Increment}
-use Rattle.imu_step.specs.Lean.{leanCovarianceAfter}
+use Rattle.imu_step.specs.inside.Lean.{leanCovarianceAfter}
 use Rattle.imu_step.specs.Parts.{carried, covarianceAfter, matrixA, matrixB, matrixN}
 use Rattle.imu_step.proofs.Shapes.{step-shape, noise-shape, diagonal-shape}
 

@@ -15,7 +15,7 @@ use Rattle.number.proofs.float.PlusZero.{a-zero-times}
 use Rattle.number.proofs.float.SameNumber.{Zero, signed}
 use Rattle.mat3.specs.Matrix.{transpose, zeros, identity, scaled}
 use Rattle.mat9.specs.Matrix.{matrix, blocks, diagonal6}
-use Rattle.lean9.specs.Lean.{keptInStep, keptInNoise}
+use Rattle.lean9.specs.inside.Lean.{keptInStep, keptInNoise}
 use Rattle.lean9.proofs.Shapes.{ZeroBut, StepShape, NoiseShape, DiagonalShape}
 use Rattle.mat9.proofs.Loops.{blockEntry, entry-matrix}
 use Rattle.inertial.specs.declared.ImuCalib.{ImuCalib}

@@ -1,7 +1,7 @@
 // What one inertial step makes of each part of the state: rotation, velocity and position, their covariance, and how they move with the biases. From
 // kornia's imu.rs.
 ghost use mathlib.Core.Path.{_≡_};
-ghost use Rattle.imu_step.specs.Lean.{leanCovarianceAfter};
+ghost use Rattle.imu_step.specs.inside.Lean.{leanCovarianceAfter};
 ghost use Rattle.imu_step.specs.Parts.{halfSquare, lessHalfSquare, lessTimes, matrixA, matrixB, matrixN, motionAfter, positionAfter, positionByAccel, positionByGyro, rotationAfter, rotationByGyro, velocityAfter, velocityByAccel, velocityByGyro};
 use inertial::ImuCalib;
 use rotation::Increment;

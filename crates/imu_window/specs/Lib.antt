@@ -1,3 +1,4 @@
 -- 01, Inertial accumulation: batches and windows.
 pub mod Batch
 pub mod Window
+pub mod Statements

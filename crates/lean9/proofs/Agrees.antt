@@ -20,7 +20,7 @@ use Rattle.number.proofs.float.PlusZero.{notMinusZero, +0-not-minus-zero, sum-n
 use Rattle.number.proofs.float.SameNumber.{Zero}
 use Rattle.mat9.specs.Matrix.{allFinite, entry, matrix, product, rowTimesColumn, sum, sumFromZero, transposed}
 use Rattle.mat9.proofs.Loops.{cell, entry-transposed}
-use Rattle.lean9.specs.Lean.{keptEntry, keptInNoise, keptInStep, keptProduct, keptSum, leanCarried, noiseTimesDiagonal, stepTimes, timesNoiseTransposed, timesStepTransposed}
+use Rattle.lean9.specs.inside.Lean.{keptEntry, keptInNoise, keptInStep, keptProduct, keptSum, leanCarried, noiseTimesDiagonal, stepTimes, timesNoiseTransposed, timesStepTransposed}
 use Rattle.lean9.proofs.Columns.{tabulated-same}
 use Rattle.lean9.proofs.Finite.{FiniteIn, entries-finite, kept-finite, matrix-finite, matrix-length}
 use Rattle.lean9.proofs.Kept.{kept-same}

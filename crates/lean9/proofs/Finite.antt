@@ -14,7 +14,7 @@ use Rattle.number.proofs.float.Parts.{finite-sum}
 use Rattle.number.proofs.float.PlusZero.{both}
 use Rattle.mat9.specs.Matrix.{allFinite, entry, matrix}
 use Rattle.mat9.proofs.Loops.{cell, entry-matrix, within}
-use Rattle.lean9.specs.Lean.{keptSum}
+use Rattle.lean9.specs.inside.Lean.{keptSum}
 
 -- ---- a list, and a matrix
 

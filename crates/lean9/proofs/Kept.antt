@@ -9,7 +9,7 @@ use lib.Ieee.{Float}
 use Rattle.number.specs.Float.{_⊕_, _when_else_}
 use Rattle.number.specs.Constants.{zero as +0}
 use Rattle.number.proofs.Below.{below-or-not}
-use Rattle.lean9.specs.Lean.{keptInNoise, keptInStep, keptSum, threeFrom}
+use Rattle.lean9.specs.inside.Lean.{keptInNoise, keptInStep, keptSum, threeFrom}
 
 pub kept-same : (n : ℕ) (keep : ℕ → Bool) (f g : ℕ → Float) → ((k : ℕ) → k < n → f k ≡ g k) → keptSum n keep f ≡ keptSum n keep g
 unfolding keptSum

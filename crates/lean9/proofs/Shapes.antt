@@ -1,4 +1,4 @@
--- Matrices of which only the places that the products of specs/Lean.antt keep may hold anything but a zero, of either sign. Assumes nothing.
+-- Matrices of which only the places that the products of specs/inside/Lean.antt keep may hold anything but a zero, of either sign. Assumes nothing.
 use Prim.Native.Nat.{ℕ, _<_}
 use mathlib.Core.Path.{_≡_}
 use mathlib.Core.Bool.{Bool, true, false}
@@ -8,7 +8,7 @@ use lib.Ieee.{Float}
 use Rattle.number.specs.Float.{_=ᶠ_}
 use Rattle.number.specs.Constants.{zero as +0}
 use Rattle.mat9.specs.Matrix.{entry}
-use Rattle.lean9.specs.Lean.{keptInStep, keptInNoise}
+use Rattle.lean9.specs.inside.Lean.{keptInStep, keptInNoise}
 
 -- wherever `kept` row column is false, m has a zero
 abbrev pub ZeroBut : (rows cols : ℕ) → (kept : ℕ → ℕ → Bool) → List Float → Type 0

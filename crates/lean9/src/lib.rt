@@ -9,7 +9,7 @@ ghost use lib.Dec.{ltb};
 ghost use Rattle.number.specs.Float.{_⊕_, _⊗_, _when_else_};
 ghost use Rattle.number.specs.Tabulated.{tabulated};
 ghost use Rattle.mat9.specs.Matrix.{entry};
-ghost use Rattle.lean9.specs.Lean.{keptInNoise, keptInStep, keptSum, leanCarried, noiseTimesDiagonal, stepTimes, term, threeFrom, timesNoiseTransposed, timesStepTransposed};
+ghost use Rattle.lean9.specs.inside.Lean.{keptInNoise, keptInStep, keptSum, leanCarried, noiseTimesDiagonal, stepTimes, term, threeFrom, timesNoiseTransposed, timesStepTransposed};
 
 // What stands in row r and column k of m, which has nine rows.
 fn number_at(m: &[f64], r: usize, k: usize) -> f64

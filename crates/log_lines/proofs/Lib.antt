@@ -1,6 +1,5 @@
 -- Laws that belong to no one function, and of the functions that write lines.
-pub mod Cases
-pub mod Run
+pub mod Statements
 pub mod Example
 mod Put
 mod Decimal

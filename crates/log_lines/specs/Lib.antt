@@ -2,4 +2,5 @@
 pub mod Ascii
 pub mod Digits
 pub mod Lines
-pub mod Put
+pub mod Statements
+pub mod inside

@@ -4,3 +4,4 @@ pub mod Below
 pub mod Cases
 pub mod Filled
 pub mod Tabulated
+pub mod Statements

@@ -1,3 +1,4 @@
 pub mod Closest
 pub mod Rounded
 pub mod Laws
+pub mod Nearer

@@ -3,7 +3,8 @@
 use Prim.Native.Nat.{ℕ}
 use mathlib.Core.Bool.{Bool, false, cond, _||_}
 use lib.Ieee as Ieee
-use lib.Ieee.{Float, nan, inf, fin, binary64}
+use lib.Dec.{T}
+use lib.Ieee.{Float, nan, inf, fin, binary64, fits}
 pub use lib.Ieee.Scale.{finite}
 
 infixl 60 _⊕_ _⊖_
@@ -11,6 +12,10 @@ infixl 70 _⊗_ _⊘_
 infix 80 −_
 infix 40 _<ᶠ_ _≤ᶠ_ _=ᶠ_
 infixr 10 _when_else_
+-- that a value is an f64: `Float` holds the numbers of every format
+abbrev pub IsF64 : Float → Type 0
+IsF64 x = T (fits binary64 x)
+
 -- ---- an answer when a condition holds, else the next
 
 abbrev pub _when_else_ : {A : Type 0} → A → Bool → A → A

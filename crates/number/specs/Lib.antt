@@ -7,3 +7,4 @@ pub mod Tabulated
 pub mod Whole
 pub mod Ticks
 pub mod Halving
+pub mod Statements

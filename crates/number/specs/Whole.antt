@@ -1,5 +1,5 @@
 -- 01, The wheel step: "The conversion rounds to nearest, ties to even, stated over whole numbers, for every i64."
-use Prim.Native.Nat.{ℕ, _+_, _-_, _*_, _%_, _^_, _≤_}
+use Prim.Native.Nat.{ℕ, suc, _+_, _-_, _*_, _%_, _^_, _≤_}
 use mathlib.Core.Path.{_≡_}
 use mathlib.Core.Bool.{Bool, true, false}
 use lib.IntN.{ℤ, pos, negsuc, natAbs}
@@ -29,3 +29,10 @@ pub record IsNearest (n : ℤ) (r : Float) : Type 0 where
   pub value : HasValue r (negative n) (q * gap (natAbs n)) 1
   pub within : 2 * apart (q * gap (natAbs n)) (natAbs n) ≤ gap (natAbs n)
   pub even : 2 * apart (q * gap (natAbs n)) (natAbs n) ≡ gap (natAbs n) → q % 2 ≡ 0
+
+-- b times how far n is from the number that is a / b in size and has the sign s: with another sign than n's it lies beyond zero
+abbrev pub away : ℤ → (s : Bool) → (a b : ℕ) → ℕ
+away (pos n) false a b = apart a (n * b)
+away (pos n) true a b = a + n * b
+away (negsuc n) true a b = apart a (suc n * b)
+away (negsuc n) false a b = a + suc n * b

@@ -1,8 +1,6 @@
 // Planar motions of the cart's base, and the composing of two. From kornia's wheel.rs.
-pub mod motion;
-
-pub use motion::carried;
-pub use motion::turn_matrix;
+pub mod formula;
+mod motion;
 
 // (dx, dy, dθ): base j in base i, metres and radians; and the covariance of the three, column by column.
 pub struct PlanarMotion {

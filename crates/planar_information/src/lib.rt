@@ -18,7 +18,7 @@ pub fn planar_block(motion: PlanarMotion) -> [f64; 9]
 {
     let delta = motion.delta;
     let covariance = motion.covariance;
-    let y = planar::turn_matrix(delta[2]);
+    let y = planar::formula::turn_matrix(delta[2]);
     mat3::product(
         mat3::product(mat3::transpose(y), inverse3::inverse(covariance)),
         y,
@@ -33,7 +33,7 @@ fn is_near_symmetric(cii: f64, cij: f64, cji: f64, cjj: f64) -> bool
     if apart == 0.0 {
         return true;
     }
-    let tolerance = 1e-9 * root::root_or_nan(number::size(cii * cjj));
+    let tolerance = 1e-9 * root::formula::root_or_nan(number::size(cii * cjj));
     !(tolerance < apart)
 }
 

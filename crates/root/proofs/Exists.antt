@@ -9,7 +9,7 @@ use lib.Dec.{T}
 use lib.Ieee.{Float, binary64, ofBits, toBits, fits}
 use lib.Ieee.Positive.{positive}
 use Rattle.root.specs.Root.{patternGrains, IsRoot}
-use Rattle.root.specs.Steps.{RootBits, Floor, Scale}
+use Rattle.root.specs.inside.Steps.{RootBits, Floor, Scale}
 use Rattle.number.proofs.Below.{below-or-not}
 use Rattle.root.proofs.Halves.{large, some-left, doubled, even-square, odd-square}
 use Rattle.root.proofs.Rounded.{rounded, subnormal, normal}

@@ -4,7 +4,7 @@ use mathlib.Core.Logic.{inl, inr}
 use Prim.Native.Nat.{ℕ, _+_, _-_, _*_, _/_, _%_, _^_, _≤_, _<_}
 use native.Mathlib.Nat.{mul-le-mul, le-of-mul-le-mul-right, div-add-mod', mod-lt}
 use native.Mathlib.Omega.{arith}
-use Rattle.root.specs.Steps.{Floor}
+use Rattle.root.specs.inside.Steps.{Floor}
 use Rattle.number.proofs.Below.{below-or-not}
 use Rattle.root.proofs.Newton.{sq-pos}
 

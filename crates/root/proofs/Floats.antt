@@ -14,7 +14,7 @@ use lib.Ieee.Exact.{HasValue, odd-sign}
 use lib.Ieee.Positive.{positive, positive-of-value}
 use Rattle.root.specs.Root.{grains, next, previous, IsRoot}
 use Rattle.root.specs.Root.{fieldGrains, patternGrains}
-use Rattle.root.specs.Steps.{RootBits}
+use Rattle.root.specs.inside.Steps.{RootBits}
 use Rattle.number.proofs.Below.{below-or-not}
 use Rattle.root.proofs.Values.{pattern-is, pattern-step}
 

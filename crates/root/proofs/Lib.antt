@@ -11,4 +11,5 @@ mod Choice
 mod Descend
 mod Exists
 pub mod Laws
+pub mod Statements
 pub mod Examples

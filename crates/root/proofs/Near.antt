@@ -5,7 +5,7 @@ use mathlib.Core.Logic.{inl, inr}
 use Prim.Native.Nat.{ℕ, _+_, _*_, _/_, _%_, _^_, _≤_, _<_}
 use native.Mathlib.Nat.{mul-le-mul}
 use native.Mathlib.Omega.{arith}
-use Rattle.root.specs.Steps.{Floor}
+use Rattle.root.specs.inside.Steps.{Floor}
 use Rattle.number.proofs.Below.{below-or-not}
 
 -- m is 2 ^ 52 and k + 1 more, and q is 2 ^ 53 and k more

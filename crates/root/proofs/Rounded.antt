@@ -6,7 +6,7 @@ use native.Mathlib.Nat.{lt-of-lt-of-le, lt-of-le-of-lt, mul-assoc, mul-right-com
 use native.Mathlib.Omega.{arith}
 use lib.Pow.{pow-add, pow-pos}
 use Rattle.root.specs.Root.{fieldGrains, patternGrains}
-use Rattle.root.specs.Steps.{RootBits, Floor, Scale}
+use Rattle.root.specs.inside.Steps.{RootBits, Floor, Scale}
 use Rattle.number.proofs.Below.{below-or-not}
 use Rattle.root.proofs.Extend.{whole-ge, whole-lt}
 use Rattle.root.proofs.Values.{pattern-is, field-suc, field-zero, pattern-at, pattern-next, pattern-step}

@@ -1,3 +1,4 @@
--- 01, Square root: the definition, and the words of the private functions.
+-- 01, Square root: the definition, and what 01 states of it.
 pub mod Root
-pub mod Steps
+pub mod Statements
+pub mod inside

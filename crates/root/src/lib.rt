@@ -4,9 +4,10 @@ ghost use mathlib.Core.Path.{_≡_};
 ghost use Prim.Native.Nat.{_+_, _*_, _^_, _≤_, _<_};
 ghost use lib.Dec.{T};
 ghost use lib.Ieee.Positive.{positive};
-ghost use Rattle.root.specs.Root.{IsRoot, sqrtOf};
-ghost use Rattle.root.specs.Root.{orNan, saidRoot};
-ghost use Rattle.root.specs.Steps.{RootBits, Floor, Scale};
+ghost use Rattle.root.specs.Root.{IsRoot, saidRoot, sqrtOf};
+ghost use Rattle.root.specs.inside.Steps.{RootBits, Floor, Scale};
+
+pub mod formula;
 
 // What `sqrt` answers: a root, or NonFinite for a NaN and for a number below zero, which have none.
 pub enum Root {
@@ -131,14 +132,4 @@ pub fn sqrt(x: f64) -> Root
         return Root::NonFinite;
     }
     Root::Value(positive_root(x))
-}
-
-// The root of x, or a NaN where it has none.
-pub fn root_or_nan(x: f64) -> f64
-    ensures { λ r. ⌜ r ≡ orNan (sqrtOf x) ⌝ }
-{
-    match sqrt(x) {
-        Root::Value(r) => r,
-        Root::NonFinite => 0.0 / 0.0,
-    }
 }

@@ -21,7 +21,7 @@ pub fn increment_of(v: [f64; 3]) -> Increment
     ensures { λ r. ⌜ r ≡ incrementOf v ⌝ }
 {
     let square = vec3::dot(v, v);
-    let angle = root::root_or_nan(square);
+    let angle = root::formula::root_or_nan(square);
     let k = coefficients_of(square, angle);
     let h = hat_of(v);
     let h2 = mat3::product(h, h);
@@ -58,7 +58,7 @@ fn series_of(square: f64) -> Coefficients
 fn closed_forms(square: f64, angle: f64) -> Coefficients
     ensures { λ r. ⌜ r ≡ closedForms square angle ⌝ }
 {
-    let v = sincos::turn_of(angle);
+    let v = sincos::formula::turn_of(angle);
     let s = v.sin;
     let c = v.cos;
     Coefficients {
@@ -107,7 +107,7 @@ pub fn normalized(r: [f64; 9]) -> [f64; 9]
 fn unit(v: [f64; 3]) -> [f64; 3]
     ensures { λ r. ⌜ r ≡ unitOf v ⌝ }
 {
-    vec3::vector_scaled(v, 1.0 / root::root_or_nan(vec3::dot(v, v)))
+    vec3::vector_scaled(v, 1.0 / root::formula::root_or_nan(vec3::dot(v, v)))
 }
 
 // v without its part along the unit vector e.

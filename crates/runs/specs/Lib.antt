@@ -1,4 +1,4 @@
 -- Runs of readings and restarts, and the theorem on them.
 pub mod Run
-pub mod Theorem
 pub mod Events
+pub mod Theorem

@@ -13,7 +13,7 @@ use Rattle.sincos.specs.declared.SinCos.{SinCos}
 use Rattle.sincos.specs.declared.Turned.{Turned}
 use Rattle.sincos.specs.declared.Turned.the-variants as T
 
--- ---- the table: F k is the f64 nearest to 1/k! (proofs/Factorials.antt)
+-- ---- the table: F k is the f64 nearest to 1/k! (Statements.antt)
 
 abbrev pub reciprocalFactorials : List ℕ
 reciprocalFactorials =

@@ -1,6 +1,6 @@
 // Still stretches: when a cart is parked, two keyframes are linked by a factor that says so. From kornia's stationary.rs.
-pub mod factor;
-pub mod join;
+mod factor;
+mod join;
 
 use inertial::ImuCalib;
 use robust::Huber;

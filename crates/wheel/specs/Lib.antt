@@ -2,3 +2,4 @@
 pub mod Answers
 pub mod Integrator
 pub mod Step
+pub mod Statements

@@ -1,6 +1,6 @@
 // Wheel odometry: the integrator that takes one reading at a time. From the lower half of kornia's wheel.rs.
-pub mod state;
-pub mod step;
+mod state;
+mod step;
 
 use drive::DifferentialDrive;
 use drive::WheelMeasurement;

@@ -7,6 +7,8 @@ use crate::Last;
 use crate::WheelPreintegration;
 use drive::Refusal;
 use drive::WheelMeasurement;
+use interval::formula::advanced;
+use interval::formula::interval_of;
 use step_order::Outcome;
 
 impl WheelPreintegration {
@@ -36,12 +38,12 @@ impl WheelPreintegration {
         let stored = self.accumulated;
         let motion = stored.motion;
         let delta = motion.delta;
-        let i = interval::interval_of(drive, last, m);
+        let i = interval_of(drive, last, m);
         let fit = step_order::interval_fits(delta[2], last, m, i);
         if let Outcome::Refused(why) = fit {
             return self.refused(why);
         }
-        let accumulated = stored.advanced(drive, settings.noise, i);
+        let accumulated = advanced(stored, drive, settings.noise, i);
         if !accumulated.is_finite() {
             return self.refused(Refusal::NonFinite);
         }

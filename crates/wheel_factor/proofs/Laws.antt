@@ -12,6 +12,7 @@ use Rattle.wheel_odom.specs.Measurement.{composeOf}
 use Rattle.wheel_odom.specs.Information.{informationOf}
 use Rattle.wheel_factor.specs.declared.WheelOdomFactor.{WheelOdomFactor}
 use Rattle.wheel_factor.specs.Factor.{byMeasurement, composeFactorOf, isGiven, validFactor}
+use Rattle.wheel_factor.specs.Statements.{Spans}
 use Rattle.wheel_factor.proofs.Joined.{apart, as-measured}
 
 -- ---- a factor that may enter a solve
@@ -29,10 +30,6 @@ valid-has-information f e = go (informationOf (f .measurement) .outcome) refl
     go (refused n values) r = absurd (false≢true (sym (refused-not-valid f n values r) ∙ e))
 
 -- ---- the ends of a joined factor
-
-pub record Spans (a b joined : WheelOdomFactor) : Type 0 where
-  pub from-the-first : joined .«from_idx» ≡ a .«from_idx»
-  pub to-the-second : joined .«to_idx» ≡ b .«to_idx»
 
 pub joined-spans : (a b : WheelOdomFactor) → composeFactorOf a b .outcome ≡ gives tt → Spans a b (composeFactorOf a b .value)
 joined-spans a b = go (eqb (a .«to_idx») (b .«from_idx»)) refl

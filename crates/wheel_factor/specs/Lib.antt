@@ -1,2 +1,3 @@
 -- The factor of a wheel measurement.
 pub mod Factor
+pub mod Statements

@@ -1,6 +1,6 @@
 // The motion that a cart's wheels measured between two keyframes: its information, and the composing of two. From kornia's wheel_odom.rs.
-pub mod info;
-pub mod measurement;
+mod info;
+mod measurement;
 
 // (dx, dy, dθ) and its covariance, column by column; out-of-plane translation sigma in metres, roll and pitch sigma in radians.
 pub struct WheelOdomMeasurement {

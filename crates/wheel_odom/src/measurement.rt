@@ -88,7 +88,7 @@ impl WheelOdomMeasurement {
         ensures { λ r. ⌜ r ≡ composedMeasurement self next ⌝ }
     {
         let a = self.planar_motion();
-        let motion = a.composed(next.planar_motion());
+        let motion = planar::formula::composed(a, next.planar_motion());
         let z = joined_sigma(self.z_sigma, next.z_sigma);
         let tilt = joined_sigma(self.tilt_sigma, next.tilt_sigma);
         let planar = WheelOdomMeasurement::from_motion(motion);
@@ -116,5 +116,5 @@ fn refused(outcome: Outcome) -> ComposedMeasurement
 fn joined_sigma(a: f64, b: f64) -> f64
     ensures { λ r. ⌜ r ≡ joinedSigma a b ⌝ }
 {
-    root::root_or_nan(a * a + b * b)
+    root::formula::root_or_nan(a * a + b * b)
 }

@@ -3,5 +3,6 @@ pub mod Choosing
 pub mod Accepted
 pub mod AllKeys
 pub mod WindowOrder
+pub mod Statements
 pub mod Cases
 pub mod Example

@@ -2,6 +2,7 @@
 //! rows of a table.
 mod factors;
 mod inertial;
+mod numbers;
 mod wheel;
 
 use crate::call::{Call, records};
@@ -19,6 +20,7 @@ struct Row {
 pub fn print(ours: &Ours) {
     println!("differences on purpose, and where they might be looked for");
     println!("| Where | The Rust | Ours | Input |\n|---|---|---|---|");
+    table(ours, "number_cases", numbers::rows());
     table(ours, "wheel_cases", wheel::rows());
     table(ours, "factor_cases", factors::rows());
     if ours.has("imu_cases") {

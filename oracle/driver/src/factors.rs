@@ -6,7 +6,7 @@ use crate::mapping::wheel_odom::{WheelOdomFactor, WheelOdomMeasurement};
 use crate::ours::{Ours, bits, words};
 use crate::random::Random;
 use crate::report::{Group, largest};
-use crate::wheel::{motion, motion_parts, motion_words, term_sizes};
+use crate::wheel::{Sizes, motion, motion_parts, motion_words};
 use kornia_3d::pose::Pose3d;
 use kornia_algebra::{Mat3F64, Vec3F64};
 use kornia_sensors::imu::ImuCalib;
@@ -85,10 +85,11 @@ fn factor_words(f: &WheelOdomFactor) -> Vec<u64> {
     .concat()
 }
 
-/// A measurement within the sizes of place, heading and covariance, and each sigma within its own.
-fn measurement_parts(m: &WheelOdomMeasurement, sizes: (f64, f64, f64)) -> Vec<Part> {
+/// What two measurements come to: the motion within the sizes of the composition, and each sigma within its own.
+fn composed_parts([a, b]: [&WheelOdomMeasurement; 2], m: &WheelOdomMeasurement) -> Vec<Part> {
     let sigmas = [m.z_sigma, m.tilt_sigma].map(|x| Part::Near("sigmas", vec![x], x));
-    motion_parts(&m.planar_motion(), sizes).into_iter().chain(sigmas).collect()
+    let sizes = Sizes::of_composition(&a.planar_motion(), &b.planar_motion());
+    motion_parts(&m.planar_motion(), &sizes).into_iter().chain(sigmas).collect()
 }
 
 // ---- wheel factors
@@ -176,7 +177,7 @@ pub fn validity(ours: &Ours, random: &mut Random) -> Group {
 /// Two measurements composed.
 pub fn measurements(a: &WheelOdomMeasurement, b: &WheelOdomMeasurement) -> Call {
     let mut answer = vec![Part::Kept(vec![0])];
-    answer.extend(measurement_parts(&a.compose(b), term_sizes(&a.planar_motion(), &b.planar_motion())));
+    answer.extend(composed_parts([a, b], &a.compose(b)));
     Call { kind: 4, words: [measurement_words(a), measurement_words(b)].concat(), answer }
 }
 
@@ -186,7 +187,7 @@ fn factors(a: &WheelOdomFactor, b: &WheelOdomFactor) -> Call {
     let mut answer = vec![Part::Same("none, or 10", vec![if rust.is_some() { 0 } else { 10 }])];
     if let Some(f) = rust {
         answer.push(Part::Same("ends", vec![f.from_idx as u64, f.to_idx as u64]));
-        answer.extend(measurement_parts(&f.measurement, term_sizes(&a.measurement.planar_motion(), &b.measurement.planar_motion())));
+        answer.extend(composed_parts([&a.measurement, &b.measurement], &f.measurement));
         answer.push(Part::Same("extrinsics", extrinsic_words(&f.t_cb_from)));
         answer.push(Part::Same("extrinsics", extrinsic_words(&f.t_cb_to)));
         answer.push(Part::Same("Huber limit", optional(f.huber_chi2.as_slice(), 0)));
@@ -367,7 +368,7 @@ fn made(m: &WheelOdomMeasurement) -> Vec<u64> {
 }
 
 /// Every way to make a measurement.
-fn measurement_made(m: &WheelOdomMeasurement) -> Call {
+pub fn measurement_made(m: &WheelOdomMeasurement) -> Call {
     let plain = WheelOdomMeasurement::new(m.delta, m.covariance);
     let full = plain.with_out_of_plane_sigmas(m.z_sigma, m.tilt_sigma);
     let answer = vec![

@@ -62,20 +62,11 @@ impl Sizes {
         }
     }
 
-    /// Of a corrected rotation, velocity and position: those of the run and of the terms (reading 17).
-    fn of_correction(&self, rust: &PreintegratedImu, bias: &ImuBias) -> [f64; 3] {
-        let (dbg, dba) = (bias.gyro - rust.bias.gyro, bias.accel - rust.bias.accel);
-        let by = |i: usize, d: Vec3F64| 3.0 * self.0[i] * largest(&d.to_array());
-        let vector = |i: usize| [self.0[i], by(4 + 2 * i, dbg), by(5 + 2 * i, dba)].into_iter().fold(0.0, larger);
-        [self.0[0], vector(1), vector(2)]
-    }
-
-    /// Of a predicted rotation, velocity and position: those of the terms (reading 17).
-    fn of_prediction(&self, dt: f64, from: &World) -> [f64; 3] {
-        let turn = largest(&from.r.to_cols_array());
-        let [v, p, g] = [from.v, from.p, from.g].map(|x| largest(&x.to_array()));
-        let size = |xs: &[f64]| xs.iter().copied().fold(0.0, larger);
-        [turn * self.0[0], size(&[v, g * dt, turn * self.0[1]]), size(&[p, v * dt, g * dt * dt, turn * self.0[2]])]
+    /// What is asked of a rotation (0), velocity (1) or position (2) at the end of a run: within the size that it reached in the run, in what the
+    /// call starts from, or in the answer.
+    fn near(&self, what: &'static str, group: usize, from: &[f64], answer: &[f64]) -> Part {
+        let size = [self.0[group], largest(from), largest(answer)].into_iter().fold(0.0, larger);
+        Part::Near(what, answer.to_vec(), size)
     }
 }
 
@@ -158,27 +149,25 @@ impl Run {
 
     /// The three corrections.
     pub fn correct(&mut self, rust: &PreintegratedImu, bias: &ImuBias) {
-        let [turn, speed, place] = self.sizes.of_correction(rust, bias);
         if angle(rust.d_rotation_d_bias_gyro * (bias.gyro - rust.bias.gyro)) > 4.0 {
             self.refuse_8(8, bias_words(bias));
         } else {
-            let rotation = rust.delta_rotation_with_bias(bias).to_cols_array().to_vec();
-            self.call(8, bias_words(bias), vec![said(0), Part::Near("corrected rotation", rotation, turn)]);
+            let rotation = self.sizes.near("corrected rotation", 0, &[], &rust.delta_rotation_with_bias(bias).to_cols_array());
+            self.call(8, bias_words(bias), vec![said(0), rotation]);
         }
-        let velocity = rust.delta_velocity_with_bias(bias).to_array().to_vec();
-        self.call(9, bias_words(bias), vec![said(0), Part::Near("corrected velocity", velocity, speed)]);
-        let position = rust.delta_position_with_bias(bias).to_array().to_vec();
-        self.call(10, bias_words(bias), vec![said(0), Part::Near("corrected position", position, place)]);
+        let velocity = self.sizes.near("corrected velocity", 1, &[], &rust.delta_velocity_with_bias(bias).to_array());
+        self.call(9, bias_words(bias), vec![said(0), velocity]);
+        let position = self.sizes.near("corrected position", 2, &[], &rust.delta_position_with_bias(bias).to_array());
+        self.call(10, bias_words(bias), vec![said(0), position]);
     }
 
     pub fn predict(&mut self, rust: &PreintegratedImu, from: &World) {
         let (r, v, p) = rust.predict(&from.r, &from.v, &from.p, &from.g);
-        let [turn, speed, place] = self.sizes.of_prediction(rust.dt, from);
         let answer = vec![
             said(0),
-            Part::Near("predicted rotation", r.to_cols_array().to_vec(), turn),
-            Part::Near("predicted velocity", v.to_array().to_vec(), speed),
-            Part::Near("predicted position", p.to_array().to_vec(), place),
+            self.sizes.near("predicted rotation", 0, &from.r.to_cols_array(), &r.to_cols_array()),
+            self.sizes.near("predicted velocity", 1, &from.v.to_array(), &v.to_array()),
+            self.sizes.near("predicted position", 2, &from.p.to_array(), &p.to_array()),
         ];
         self.call(11, from.words(), answer);
     }

@@ -33,7 +33,7 @@ fn compare(ours: &Ours, seed: u64) {
         wheel::runs(ours, "wheel runs of a few readings, up to the domain's end", &wheel::short_runs(&mut random(16))),
         wheel::runs(ours, "tame wheel walks", &wheel::tame_runs(&mut random(2))),
         wheel::runs(ours, "wheel runs that turn as far as they may", &wheel::spinning_runs(&mut random(13))),
-        wheel::runs(ours, "wheel runs of whole turns", &wheel::turning_runs(&mut random(14))),
+        wheel::runs_by_both(ours, "wheel runs of whole turns", &wheel::turning_runs(&mut random(14))),
         wheel::asked(ours, &mut random(3)),
         wheel::compositions(ours, &mut random(4)),
         factors::information(ours, &mut random(5)),
@@ -52,10 +52,12 @@ fn compare(ours: &Ours, seed: u64) {
     } else {
         println!("inertial: NOT COMPARED, the repository has no crates/imu_cases");
     }
-    let agreed = groups.iter().filter(|g| g.print()).count();
+    for group in &groups {
+        group.print();
+    }
     differences::print(ours);
-    println!("{agreed} of {} groups agree", groups.len());
-    if agreed < groups.len() {
+    report::conclude(&groups);
+    if groups.iter().any(|g| !g.agrees()) {
         std::process::exit(1);
     }
 }

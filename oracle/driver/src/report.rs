@@ -20,11 +20,16 @@ pub struct Group {
     near: BTreeMap<&'static str, Worst>,
     apart: Vec<String>,
     aparts: u64,
+    /// The same by document 01's own yardstick, of a group that is judged by the widened one.
+    pub by_own: Option<Box<Group>>,
 }
 
 #[derive(Default, Clone, Copy)]
 struct Worst {
     numbers: u64,
+    /// How many of them are apart, and the largest of these, on either side.
+    apart: u64,
+    reach: f64,
     part: f64,
     case: u64,
 }
@@ -66,7 +71,7 @@ impl Group {
                 Part::Kept(words) => {
                     let ours = line.take(words.len());
                     if ours != *words {
-                        self.tell(format!("what is kept: ours {ours:x?}, and not {words:x?}"));
+                        self.tell(1, format!("what is kept: ours {ours:x?}, and not {words:x?}"));
                     }
                 }
                 Part::Same(what, words) => self.same(what, line.take(words.len()), words.clone()),
@@ -80,46 +85,65 @@ impl Group {
     pub fn same<T: PartialEq + std::fmt::Debug>(&mut self, what: &'static str, ours: T, rust: T) {
         *self.same.entry(what).or_default() += 1;
         if ours != rust {
-            self.tell(format!("{what}: ours {ours:x?}, the Rust {rust:x?}"));
+            self.tell(1, format!("{what}: ours {ours:x?}, the Rust {rust:x?}"));
         }
     }
 
     /// Within the tolerance, of a size.
     pub fn near(&mut self, what: &'static str, ours: &[f64], rust: &[f64], size: f64) {
-        let error = ours.iter().zip(rust).map(|(a, b)| (a - b).abs()).fold(0.0, larger);
-        self.judge(what, ours, rust, error, size);
+        let errors: Vec<_> = ours.iter().zip(rust).map(|(a, b)| (a - b).abs()).collect();
+        self.judge(what, ours, rust, &errors, size);
     }
 
     /// The same, modulo a turn.
     fn near_heading(&mut self, ours: f64, rust: f64, size: f64) {
         let error = (ours - rust).abs();
-        self.judge("heading", &[ours], &[rust], error.min((error - TAU).abs()), size);
+        self.judge("heading", &[ours], &[rust], &[error.min((error - TAU).abs())], size);
     }
 
-    fn judge(&mut self, what: &'static str, ours: &[f64], rust: &[f64], error: f64, size: f64) {
+    fn judge(&mut self, what: &'static str, ours: &[f64], rust: &[f64], errors: &[f64], size: f64) {
         let worst = self.near.entry(what).or_default();
-        worst.numbers += ours.len() as u64;
-        let part = if error == 0.0 { 0.0 } else { error / size };
-        if !(part <= worst.part) {
+        let (mut apart, mut part) = (0, 0.0);
+        for ((a, b), error) in ours.iter().zip(rust).zip(errors) {
+            let here = if *error == 0.0 { 0.0 } else { error / size };
+            part = larger(part, here);
+            let is_near = here <= TOLERANCE;
+            if !is_near {
+                apart += 1;
+                worst.reach = larger(worst.reach, largest(&[*a, *b]));
+            }
+        }
+        worst.numbers += errors.len() as u64;
+        worst.apart += apart;
+        if part > worst.part || (part.is_nan() && !worst.part.is_nan()) {
             worst.part = part;
             worst.case = self.cases;
         }
-        let is_near = part <= TOLERANCE;
-        if !is_near {
-            self.tell(format!("{what}: ours {ours:?}, the Rust {rust:?}, {part:e} of the size {size:e}"));
+        if apart > 0 {
+            self.tell(apart, format!("{what}: ours {ours:?}, the Rust {rust:?}, {part:e} of the size {size:e}"));
         }
     }
 
-    fn tell(&mut self, text: String) {
-        self.aparts += 1;
+    /// So many are apart.
+    fn tell(&mut self, apart: u64, text: String) {
+        self.aparts += apart;
         if self.apart.len() < 8 {
             let case = self.cases;
             self.apart.push(format!("case {case} {text}"));
         }
     }
 
-    /// Prints the group. Whether all of it agreed.
-    pub fn print(&self) -> bool {
+    /// Whether all of it agrees, by the yardstick that it is judged by.
+    pub fn agrees(&self) -> bool {
+        self.aparts == 0
+    }
+
+    /// Whether it agrees, and not by document 01's own yardstick.
+    fn agrees_widened_only(&self) -> bool {
+        self.agrees() && self.by_own.as_ref().is_some_and(|own| !own.agrees())
+    }
+
+    pub fn print(&self) {
         println!("{}", self.name);
         let (part, n) = self.parts;
         let parts = if n == 0 { String::new() } else { format!(", {n} {part}") };
@@ -137,15 +161,45 @@ impl Group {
         for (what, n) in &self.same {
             println!("  bit for bit: {what}, {n} times");
         }
-        for (what, w) in &self.near {
-            println!("  within 1e-6: {what}, {} numbers, the largest error {:.1e} (case {})", w.numbers, w.part, w.case);
+        match &self.by_own {
+            None => self.print_near("within 1e-6"),
+            Some(own) => {
+                self.print_near("held to 1e-6 by the widened yardstick");
+                own.print_near("held to 1e-6 by document 01's own yardstick");
+            }
         }
         for text in &self.apart {
             println!("  APART: {text}");
         }
-        println!("  {}", if self.aparts == 0 { "all agree".into() } else { format!("{} APART", self.aparts) });
-        self.aparts == 0
+        let own = self.by_own.as_ref().map(|own| format!(" by the widened yardstick; by document 01's own {}", own.verdict()));
+        println!("  {}{}", self.verdict(), own.unwrap_or_default());
     }
+
+    fn print_near(&self, how: &str) {
+        for (what, w) in &self.near {
+            let apart = match w.apart {
+                0 => String::new(),
+                n => format!(", {n} of them APART, none of these above {:.1e} in size on either side", w.reach),
+            };
+            println!("  {how}: {what}, {} numbers{apart}, the largest error {:.1e} (case {})", w.numbers, w.part, w.case);
+        }
+    }
+
+    fn verdict(&self) -> String {
+        if self.agrees() { "all agree".into() } else { format!("{} APART", self.aparts) }
+    }
+}
+
+/// How many groups agree, and which of them by the widened yardstick only.
+pub fn conclude(groups: &[Group]) {
+    let agreed = groups.iter().filter(|g| g.agrees()).count();
+    let widened: Vec<_> = groups.iter().filter(|g| g.agrees_widened_only()).map(|g| g.name).collect();
+    let only = if widened.is_empty() {
+        "all by document 01's own yardstick".into()
+    } else {
+        format!("{} of them by the widened yardstick only: {}", widened.len(), widened.join(", "))
+    };
+    println!("{agreed} of {} groups agree, {only}", groups.len());
 }
 
 /// The larger of two; NaN, if one is.

@@ -6,7 +6,7 @@ use crate::inertial::{self, Style, TAME, domain_style, near_bias, window, world}
 use crate::ours::{Records, line, words};
 use crate::random::Random;
 use crate::report::TOLERANCE;
-use crate::wheel::{Asked, composition, domain_run, motion, tame_run};
+use crate::wheel::{Asked, Yardstick, composition, domain_run, motion, tame_run};
 use std::path::Path;
 
 /// How many samples a batch and a window have.
@@ -72,10 +72,10 @@ pub fn write(folder: &Path) -> std::io::Result<()> {
     let [mut wheel, mut factor, mut imu] = [Tail::new(), Tail::new(), Tail::new()];
     for n in 0..40 {
         let length = 1 + random.below(if n < 30 { 12 } else { 60 });
-        wheel.add(domain_run(&mut random, length).without_refused_8().calls());
+        wheel.add(domain_run(&mut random, length).without_refused_8().calls(Yardstick::Own));
     }
     for _ in 0..8 {
-        wheel.add(tame_run(&mut random, 60).without_refused_8().calls());
+        wheel.add(tame_run(&mut random, 60).without_refused_8().calls(Yardstick::Own));
     }
     for _ in 0..60 {
         wheel.add(Asked::draw(&mut random).calls());

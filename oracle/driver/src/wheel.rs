@@ -315,11 +315,14 @@ pub fn hand_in(drive: &DifferentialDrive, motion: &PlanarMotion) -> Call {
     Call { kind: 7, words: words.clone(), answer: vec![Part::Kept(words)] }
 }
 
-/// A motion within the sizes of its place, heading and covariance.
-pub fn motion_parts(m: &PlanarMotion, (place, heading, size): (f64, f64, f64)) -> [Part; 3] {
-    let [x, y, turn] = m.delta;
+pub fn motion_parts(m: &PlanarMotion, sizes: &Sizes) -> [Part; 3] {
+    let [x, y, heading] = m.delta;
     let covariance = m.covariance.to_cols_array().to_vec();
-    [Part::Near("x and y", vec![x, y], place), Part::Heading(turn, heading), Part::Near("covariance", covariance, size)]
+    [
+        Part::Near("x and y", vec![x, y], sizes.place),
+        Part::Heading(heading, sizes.heading),
+        Part::Near("covariance", covariance, sizes.covariance),
+    ]
 }
 
 impl Run {
@@ -330,7 +333,7 @@ impl Run {
     }
 
     /// The beginning, and every event with the whole state after it.
-    pub fn calls(&self) -> Vec<Call> {
+    pub fn calls(&self, by: Yardstick) -> Vec<Call> {
         let mut calls = vec![begin(&self.drive, &self.noise)];
         let mut sizes = Sizes::default();
         for s in &self.seen {
@@ -341,10 +344,13 @@ impl Run {
                     Call::unanswered(6, vec![])
                 }
             };
-            sizes.reach(s);
+            sizes.reach(&s.motion);
+            if by == Yardstick::Widened {
+                sizes.reach_on_the_way(s.way);
+            }
             call.answer.push(Part::Same("refusals and their times", s.said.clone()));
             call.answer.push(Part::Kept(settings_words(&self.drive, &self.noise)));
-            call.answer.extend(motion_parts(&s.motion, (sizes.place, sizes.heading, sizes.covariance)));
+            call.answer.extend(motion_parts(&s.motion, &sizes));
             call.answer.push(Part::Same("dt", words(&[s.dt])));
             call.answer.push(Part::Same("last reading", last_words(s.last)));
             calls.push(call);
@@ -366,25 +372,57 @@ impl Run {
     }
 }
 
-/// The largest sizes reached since the start or the last restart, by the Rust, inside an interval too: after whole turns a heading or a place may
-/// be back at 0.
+/// What counts as a size that a run reached.
+#[derive(Clone, Copy, PartialEq)]
+pub enum Yardstick {
+    /// Document 01's own: at the readings.
+    Own,
+    /// Inside an interval too. After whole turns a heading or a place is back at 0, though it was not there on the way.
+    Widened,
+}
+
+/// The largest sizes reached since the start or the last restart, by the Rust.
 #[derive(Default)]
-struct Sizes {
+pub struct Sizes {
     place: f64,
     heading: f64,
     covariance: f64,
 }
 
 impl Sizes {
-    fn reach(&mut self, s: &Seen) {
-        let PlanarMotion { delta, covariance } = &s.motion;
-        self.place = larger(self.place, larger(s.way.0, largest(&delta[..2])));
-        self.heading = larger(self.heading, larger(s.way.1, delta[2].abs()));
-        self.covariance = larger(self.covariance, largest(&covariance.to_cols_array()));
+    fn reach(&mut self, m: &PlanarMotion) {
+        self.place = larger(self.place, largest(&m.delta[..2]));
+        self.heading = larger(self.heading, m.delta[2].abs());
+        self.covariance = larger(self.covariance, largest(&m.covariance.to_cols_array()));
+    }
+
+    fn reach_on_the_way(&mut self, (place, heading): (f64, f64)) {
+        self.place = larger(self.place, place);
+        self.heading = larger(self.heading, heading);
+    }
+
+    /// Of a composition: a run of two motions and what they come to.
+    pub fn of_composition(a: &PlanarMotion, b: &PlanarMotion) -> Self {
+        let mut sizes = Self::default();
+        for m in [a, b, &a.compose(b)] {
+            sizes.reach(m);
+        }
+        sizes
     }
 }
 
 pub fn runs(ours: &Ours, name: &'static str, runs: &[Run]) -> Group {
+    judged(ours, name, runs, Yardstick::Own)
+}
+
+/// By the widened yardstick, and beside it by document 01's own.
+pub fn runs_by_both(ours: &Ours, name: &'static str, runs: &[Run]) -> Group {
+    let mut group = judged(ours, name, runs, Yardstick::Widened);
+    group.by_own = Some(Box::new(judged(ours, name, runs, Yardstick::Own)));
+    group
+}
+
+fn judged(ours: &Ours, name: &'static str, runs: &[Run], by: Yardstick) -> Group {
     let mut group = Group::new(name, "readings and restarts");
     let steps = runs.iter().flat_map(|r| r.seen.windows(2)).map(|w| w[1].dt - w[0].dt).filter(|step| *step > 0.0);
     let (least, most) = steps.fold((f64::INFINITY, 0.0), |(a, b), step| (step.min(a), step.max(b)));
@@ -393,7 +431,7 @@ pub fn runs(ours: &Ours, name: &'static str, runs: &[Run]) -> Group {
     for run in runs {
         run.tally(&mut group);
     }
-    let cases: Vec<_> = runs.iter().map(Run::calls).collect();
+    let cases: Vec<_> = runs.iter().map(|run| run.calls(by)).collect();
     group.ask(ours, "wheel_cases", &cases);
     group
 }
@@ -536,24 +574,15 @@ pub fn motion(random: &mut Random) -> PlanarMotion {
     PlanarMotion { delta: [random.any(), random.any(), heading], covariance: Mat3F64::from_cols_array(&covariance(random)) }
 }
 
-/// The sizes that a composition's answer is judged by: of its inputs and terms (reading 17).
-pub fn term_sizes(a: &PlanarMotion, b: &PlanarMotion) -> (f64, f64, f64) {
-    let place = larger(largest(&a.delta[..2]), largest(&b.delta[..2]));
-    let heading = larger(a.delta[2].abs(), b.delta[2].abs());
-    let lever = 1.0 + largest(&b.delta[..2]);
-    let first = largest(&a.covariance.to_cols_array()) * lever * lever;
-    (place, heading, larger(first, largest(&b.covariance.to_cols_array())))
-}
-
 /// The first motion, and the second composed with it.
 pub fn composition(a: &PlanarMotion, b: &PlanarMotion) -> [Call; 2] {
     let mut answer = vec![Part::Same("refusals", vec![0])];
-    answer.extend(motion_parts(&a.compose(b), term_sizes(a, b)));
+    answer.extend(motion_parts(&a.compose(b), &Sizes::of_composition(a, b)));
     [hand_in(&UNIT, a), Call { kind: 11, words: motion_words(b), answer }]
 }
 
 pub fn compositions(ours: &Ours, random: &mut Random) -> Group {
-    let mut group = Group::new("single compositions of planar motions, by the size of inputs and terms", "");
+    let mut group = Group::new("single compositions of planar motions", "");
     let cases: Vec<_> = (0..10_000).map(|_| composition(&motion(random), &motion(random))).collect();
     group.ask(ours, "wheel_cases", &cases);
     group

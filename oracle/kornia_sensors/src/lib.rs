@@ -1,5 +1,5 @@
-//! The Rust's sensor files, unchanged, by path.
-#[path = "../../../../shared/docs/src/crates/kornia-sensors/src/imu.rs"]
+//! The Rust's sensor files, unchanged, from where oracle/rust-files puts them.
+#[path = "../../target/rust/kornia-sensors/src/imu.rs"]
 pub mod imu;
-#[path = "../../../../shared/docs/src/crates/kornia-sensors/src/wheel.rs"]
+#[path = "../../target/rust/kornia-sensors/src/wheel.rs"]
 pub mod wheel;

@@ -9,9 +9,9 @@ use Rattle.rotation.specs.declared.Increment.{Increment}
 use Rattle.rotation.specs.Rotation.{hatOf}
 use Rattle.imu.specs.State.{walked}
 use Rattle.imu_step.specs.declared.Motion.{Motion}
-use Rattle.imu_step.specs.Lean.{leanCovarianceAfter}
+use Rattle.imu_step.specs.inside.Lean.{leanCovarianceAfter}
 use Rattle.imu_step.specs.Parts.{motionAfter, positionByAccel, positionByGyro, rotationByGyro, velocityByAccel, velocityByGyro}
-use Rattle.imu.specs.Lean.{leanAdvancedBy}
+use Rattle.imu.specs.inside.Lean.{leanAdvancedBy}
 use Rattle.imu.specs.Step.{advancedWith, motionOf}
 
 pub of-parts :

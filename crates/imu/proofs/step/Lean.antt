@@ -12,10 +12,10 @@ use Rattle.inertial.specs.declared.ImuMeasurement.{ImuMeasurement}
 use Rattle.rotation.specs.declared.Increment.{Increment}
 use Rattle.rotation.specs.Rotation.{incrementOf}
 use Rattle.imu_step.specs.Parts.{covarianceAfter}
-use Rattle.imu_step.specs.Lean.{leanCovarianceAfter}
+use Rattle.imu_step.specs.inside.Lean.{leanCovarianceAfter}
 use Rattle.imu_step.proofs.Agrees.{covariance-agrees}
 use Rattle.imu.specs.declared.PreintegratedImu.{PreintegratedImu}
-use Rattle.imu.specs.Lean.{leanAdvancedBy}
+use Rattle.imu.specs.inside.Lean.{leanAdvancedBy}
 use Rattle.imu.specs.State.{finiteBias, finiteCalib, finiteJacobians, finiteMotion, finiteState}
 use Rattle.imu.specs.Step.{accelIn, advanced, advancedBy, advancedWith, angleIn, rotatedHat, turnIn}
 

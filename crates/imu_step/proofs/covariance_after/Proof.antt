@@ -1,5 +1,5 @@
 -- `covariance_after` meets its contract: each call's result is what it ensures, and with these put in place, the last first, both sides are one term. Assumes nothing.
-use Rattle.imu_step.specs.Lean.{leanCovarianceAfter}
+use Rattle.imu_step.specs.inside.Lean.{leanCovarianceAfter}
 use borrow.Author.Needs.{needs}
 use Rattle.imu_step.proofs.covariance_after.Statement.{statement}
 use Rattle.imu_step.proofs.covariance_after.Tie as tie

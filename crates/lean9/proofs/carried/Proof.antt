@@ -1,5 +1,5 @@
 -- `carried` meets its contract: each call's result is what it ensures, and with these put in place, the last first, both sides are one term. Assumes nothing.
-use Rattle.lean9.specs.Lean.{leanCarried}
+use Rattle.lean9.specs.inside.Lean.{leanCarried}
 use borrow.Author.Needs.{needs}
 use Rattle.lean9.proofs.carried.Statement.{statement}
 use Rattle.lean9.proofs.carried.Tie as tie

@@ -11,7 +11,7 @@ use Rattle.number.specs.Constants.{zero as +0}
 use Rattle.number.specs.Tabulated.{tabulated}
 use Rattle.mat9.specs.Matrix.{entry}
 use Rattle.mat9.proofs.Loops.{FilledTo, filled-to-none, filled-to-done}
-use Rattle.lean9.specs.Lean.{keptEntry, keptProduct, noiseTimesDiagonal}
+use Rattle.lean9.specs.inside.Lean.{keptEntry, keptProduct, noiseTimesDiagonal}
 use Rattle.lean9.proofs.Columns.{filled-to-column, plus-tabulated, tabulated-same}
 use Rattle.lean9.proofs.Kept.{kept-on-diagonal}
 use Rattle.lean9.proofs.noise_times_diagonal.Statement.{statement}

@@ -3,7 +3,7 @@
 use mathlib.Core.Path.{_∙_}
 use Prim.Native.Nat.{ℕ}
 use lib.Ieee.{Float}
-use Rattle.lean9.specs.Lean.{keptInNoise, keptSum, term, threeFrom}
+use Rattle.lean9.specs.inside.Lean.{keptInNoise, keptSum, term, threeFrom}
 use Rattle.lean9.proofs.Columns.{tabulated-same}
 use Rattle.lean9.proofs.Kept.{kept-in-noise}
 use borrow.Author.Needs.{needs}

@@ -6,7 +6,7 @@ use native.Mathlib.Omega.{arith}
 use Rattle.number.specs.Float.{_⊗_}
 use Rattle.number.proofs.Filled.{Filled, filled-none, filled-more, filled-done}
 use Rattle.mat9.specs.Matrix.{entry}
-use Rattle.lean9.specs.Lean.{keptInStep, keptSum}
+use Rattle.lean9.specs.inside.Lean.{keptInStep, keptSum}
 use Rattle.lean9.proofs.step_column.Statement.{statement}
 use Rattle.lean9.proofs.step_column.Tie as tie
 

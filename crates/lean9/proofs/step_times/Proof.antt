@@ -4,7 +4,7 @@ use Prim.Native.Nat.{_-_}
 use native.Mathlib.Omega.{arith}
 use Rattle.mat9.specs.Matrix.{entry}
 use Rattle.mat9.proofs.Loops.{FilledTo, filled-to-none, filled-to-done}
-use Rattle.lean9.specs.Lean.{keptEntry, keptInStep, keptProduct, stepTimes}
+use Rattle.lean9.specs.inside.Lean.{keptEntry, keptInStep, keptProduct, stepTimes}
 use Rattle.lean9.proofs.Columns.{filled-to-column}
 use Rattle.lean9.proofs.step_times.Statement.{statement}
 use Rattle.lean9.proofs.step_times.Tie as tie

@@ -5,7 +5,7 @@ use Prim.Native.Nat.{ℕ, _-_}
 use native.Mathlib.Omega.{arith}
 use lib.Ieee.{Float}
 use Rattle.number.specs.Float.{_⊕_}
-use Rattle.lean9.specs.Lean.{keptInStep, keptSum, term, threeFrom}
+use Rattle.lean9.specs.inside.Lean.{keptInStep, keptSum, term, threeFrom}
 use Rattle.lean9.proofs.Columns.{plus-tabulated, tabulated-same}
 use Rattle.lean9.proofs.Kept.{kept-in-top, kept-in-middle, kept-in-bottom}
 use borrow.Author.Needs.{needs}

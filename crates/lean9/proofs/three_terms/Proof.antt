@@ -5,7 +5,7 @@ use lib.Ieee.{Float}
 use Rattle.number.specs.Float.{_⊕_}
 use Rattle.number.specs.Constants.{zero as +0}
 use Rattle.number.specs.Tabulated.{tabulated}
-use Rattle.lean9.specs.Lean.{term}
+use Rattle.lean9.specs.inside.Lean.{term}
 use Rattle.lean9.proofs.Columns.{plus-tabulated}
 use borrow.Author.Needs.{needs}
 use Rattle.lean9.proofs.three_terms.Statement.{statement}

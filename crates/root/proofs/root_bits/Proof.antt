@@ -6,7 +6,7 @@ use native.Mathlib.Omega.{arith}
 use borrow.Author.Needs.{needs}
 use Rattle.root.specs.declared.Scaled.{Scaled}
 use Rattle.root.specs.Root.{patternGrains}
-use Rattle.root.specs.Steps.{Scale}
+use Rattle.root.specs.inside.Steps.{Scale}
 use Rattle.root.proofs.Extend.{whole-lt}
 use Rattle.root.proofs.Rounded.{rounded, subnormal, normal}
 use Rattle.root.proofs.root_bits.Statement.{statement}

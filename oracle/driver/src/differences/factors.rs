@@ -1,6 +1,6 @@
 //! Wheel factors and still factors.
-use super::{Row, number, numbers, unless_refused};
-use crate::factors::{informed, is_valid, limits_joined, measurements, still_information, still_joined};
+use super::{Row, listed, number, numbers, unless_refused};
+use crate::factors::{informed, is_valid, limits_joined, measurement_made, measurements, still_information, still_joined};
 use crate::mapping::stationary::{StationaryFactor, StationaryGyro};
 use crate::mapping::wheel_odom::{WheelOdomFactor, WheelOdomMeasurement};
 use crate::ours::Line;
@@ -21,14 +21,15 @@ pub fn rows() -> Vec<Row> {
         valid("is_valid where information is refused 2", "unit covariance, z sigma 1e-200", unit_measurement(0.0, 1e-200, 0.01)),
         sigmas("composed sigmas that overflow in their squares", 1e200, 1e200),
         sigmas("composed sigmas that vanish in their squares", 1e-200, 1e-200),
-        sigmas("composed sigmas, the last place", 1e-150, 1e-150),
+        sigmas("composed sigmas, the last place", 0.03, 0.4),
         sigmas("composed sigmas that are not finite", f64::NAN, 1.0),
         sigmas("composed sigmas below 0", -3.0, 4.0),
         limits("Huber limits, the first NaN", Some(f64::NAN), Some(1.0)),
         limits("Huber limits, the second NaN", Some(1.0), Some(f64::NAN)),
-        limits("Huber limits +0, −0", Some(0.0), Some(-0.0)),
-        limits("Huber limits −0, +0", Some(-0.0), Some(0.0)),
+        limits("Huber limits +0, −0 (Rust's min leaves the zero to the platform)", Some(0.0), Some(-0.0)),
+        limits("Huber limits −0, +0 (Rust's min leaves the zero to the platform)", Some(-0.0), Some(0.0)),
     ];
+    rows.extend(stored_rows());
     rows.extend(still_rows());
     rows
 }
@@ -36,6 +37,29 @@ pub fn rows() -> Vec<Row> {
 fn information(place: &'static str, input: &str, m: WheelOdomMeasurement) -> Row {
     let rust = m.information().map_or("None".into(), |i| format!("diagonal {}", numbers(&[0, 1, 2, 3, 4, 5].map(|k| i[k][k].to_bits()))));
     Row { place, input: input.into(), rust, calls: vec![informed(&m)], read: |line| unless_refused(line, |line| numbers(&line.take(36))) }
+}
+
+/// Matrices that are not symmetric, in the order in which they are stored: in the Rust by rows, in ours by columns.
+fn stored_rows() -> Vec<Row> {
+    let counted = WheelOdomMeasurement::new([0.0; 3], [[1.0, 2.0, 3.0], [4.0, 5.0, 6.0], [7.0, 8.0, 9.0]]);
+    let uneven = WheelOdomMeasurement::new([0.0; 3], [[1.0, 5e-10, 0.0], [0.0, 1.0, 0.0], [0.0, 0.0, 1.0]]);
+    let info = uneven.information().expect("near enough to symmetric");
+    vec![
+        Row {
+            place: "covariance of a measurement, as it is stored",
+            input: "rows (1, 2, 3), (4, 5, 6), (7, 8, 9)".into(),
+            rust: listed(counted.covariance.as_flattened()),
+            calls: vec![measurement_made(&counted)],
+            read: |line| numbers(&line.behind(3).take(9)),
+        },
+        Row {
+            place: "information, the first seven numbers as they are stored",
+            input: "unit covariance with 5e-10 in row x, column y, heading 0".into(),
+            rust: listed(&info.as_flattened()[..7]),
+            calls: vec![informed(&uneven)],
+            read: |line| unless_refused(line, |line| numbers(&line.take(7))),
+        },
+    ]
 }
 
 fn with(m: WheelOdomMeasurement, limit: Option<f64>) -> WheelOdomFactor {
@@ -81,6 +105,7 @@ fn still_rows() -> Vec<Row> {
     vec![
         info("still information of an invalid factor", "span 0, densities 1", still(0, 0.0)),
         info("still information that is not finite", "translation sigma 1e-200", thin),
+        mean_row(still(0, 1.0).with_gyro(StationaryGyro::new(Vec3F64::new(1.0, 2.0, 3.0), 4.0))),
         joined("still compose with an invalid factor", "spans 0 and 1", still(0, 0.0), still(1, 1.0)),
         joined("still compose, span that overflows", "spans 1.7e308 and 1.7e308", still(0, 1.7e308), still(1, 1.7e308)),
         joined(
@@ -102,6 +127,20 @@ fn still_rows() -> Vec<Row> {
             still(1, 1.0).with_gyro(mean(0.0, 1.0)),
         ),
     ]
+}
+
+/// What the information has of a mean rate.
+fn mean_row(f: StationaryFactor) -> Row {
+    let (mean, information) = f.information().gyro_mean.expect("a mean");
+    let rust = format!("mean {}, information {}", listed(&mean.to_array()), number(information));
+    let read = |line: &mut Line| {
+        unless_refused(line.behind(1), |line| {
+            let row = line.behind(40).take(5);
+            format!("mean {}, covered {}, information {}", numbers(&row[..3]), numbers(&row[3..4]), numbers(&row[4..]))
+        })
+    };
+    let input = "densities 1, span 1, mean (1, 2, 3) over 4 s".into();
+    Row { place: "still information, what it carries of a mean", input, rust, calls: vec![still_information(&f)], read }
 }
 
 fn joined(place: &'static str, input: &str, a: StationaryFactor, b: StationaryFactor) -> Row {

@@ -1,0 +1,2 @@
+-- What the timed functions are given.
+pub mod Fixture

@@ -1,2 +1,0 @@
--- What the exported functions are given.
-pub mod Exported
