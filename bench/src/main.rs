@@ -10,14 +10,14 @@ use std::hint::black_box;
 use std::time::Instant;
 
 unsafe extern "C" {
-    fn latchfern_root(x: f64) -> f64;
-    fn latchfern_sine_plus_cosine(x: f64) -> f64;
-    fn latchfern_wheel_run(events: *const u8, n: usize) -> f64;
-    fn latchfern_replay(log: *const u8, n: usize) -> usize;
-    fn latchfern_order(samples: *const f64, n: usize, t0: f64, t1: f64, order: *mut usize, places: usize);
-    fn latchfern_inertial_batch(samples: *const f64, n: usize) -> f64;
+    fn bench_root(x: f64) -> f64;
+    fn bench_sine_plus_cosine(x: f64) -> f64;
+    fn bench_wheel_run(events: *const u8, n: usize) -> f64;
+    fn bench_replay(log: *const u8, n: usize) -> usize;
+    fn bench_order(samples: *const f64, n: usize, t0: f64, t1: f64, order: *mut usize, places: usize);
+    fn bench_inertial_batch(samples: *const f64, n: usize) -> f64;
     #[allow(clippy::too_many_arguments)]
-    fn latchfern_information(heading: f64, cxx: f64, cxy: f64, cxw: f64, cyy: f64, cyw: f64, cww: f64) -> f64;
+    fn bench_information(heading: f64, cxx: f64, cxy: f64, cxw: f64, cyy: f64, cyw: f64, cww: f64) -> f64;
 }
 
 const ROUNDS: usize = 200;
@@ -95,7 +95,7 @@ fn rust_run(readings: &[WheelMeasurement]) -> f64 {
 
 fn wheel_steps(name: &str, hertz: f64) {
     let w = walk(1000, hertz);
-    let ours = || unsafe { latchfern_wheel_run(black_box(w.bytes.as_ptr()), w.bytes.len()) };
+    let ours = || unsafe { bench_wheel_run(black_box(w.bytes.as_ptr()), w.bytes.len()) };
     near(ours(), rust_run(&w.readings));
     let times = best(
         1000,
@@ -164,7 +164,7 @@ fn rust_replay(log: &[u8]) -> usize {
 
 fn replay() {
     let log = log(2518);
-    let ours = || unsafe { latchfern_replay(black_box(log.as_ptr()), log.len()) };
+    let ours = || unsafe { bench_replay(black_box(log.as_ptr()), log.len()) };
     assert_eq!(ours(), rust_replay(&log));
     let times = best(
         1,
@@ -208,7 +208,7 @@ fn rust_batch(ms: &[ImuMeasurement]) -> f64 {
 fn inertial_step() {
     let flat = samples(1001, 200.0);
     let ms = measurements(&flat);
-    let ours = || unsafe { latchfern_inertial_batch(black_box(flat.as_ptr()), flat.len()) };
+    let ours = || unsafe { bench_inertial_batch(black_box(flat.as_ptr()), flat.len()) };
     near(ours(), rust_batch(&ms));
     let times = best(
         1000,
@@ -230,7 +230,7 @@ fn ordering(name: &str, places: Vec<usize>) {
     }
     let ms = measurements(&flat);
     let mut order = vec![0usize; ms.len()];
-    let ours = |order: &mut [usize]| unsafe { latchfern_order(black_box(flat.as_ptr()), flat.len(), 0.0, 100.0, order.as_mut_ptr(), order.len()) };
+    let ours = |order: &mut [usize]| unsafe { bench_order(black_box(flat.as_ptr()), flat.len(), 0.0, 100.0, order.as_mut_ptr(), order.len()) };
     ours(&mut order);
     let rust = || {
         let mut sorted: Vec<&ImuMeasurement> = ms.iter().filter(|m| m.timestamp >= 0.0 && m.timestamp <= 100.0).collect();
@@ -277,7 +277,7 @@ fn orderings() {
 
 fn information() {
     let c = |i: usize| 0.01 + i as f64 * 1e-5;
-    let ours = |i: usize| unsafe { latchfern_information(0.001 * i as f64, c(i), 0.001, 0.002, c(i), 0.003, c(i)) };
+    let ours = |i: usize| unsafe { bench_information(0.001 * i as f64, c(i), 0.001, 0.002, c(i), 0.003, c(i)) };
     let rust = |i: usize| {
         let m = mapping::wheel_odom::WheelOdomMeasurement::new(
             [0.0, 0.0, 0.001 * i as f64],
@@ -291,14 +291,14 @@ fn information() {
 
 fn numbers() {
     let x = |i: usize| 0.001 + 0.003 * i as f64;
-    near(unsafe { latchfern_root(x(5)) }, x(5).sqrt());
-    line("a root", best(1000, thousand(|i| unsafe { latchfern_root(x(i)) }), thousand(|i| x(i).sqrt())));
+    near(unsafe { bench_root(x(5)) }, x(5).sqrt());
+    line("a root", best(1000, thousand(|i| unsafe { bench_root(x(i)) }), thousand(|i| x(i).sqrt())));
     let rust = |x: f64| {
         let (s, c) = x.sin_cos();
         s + c
     };
-    near(unsafe { latchfern_sine_plus_cosine(x(5)) }, rust(x(5)));
-    let ours = |x: f64| unsafe { latchfern_sine_plus_cosine(x) };
+    near(unsafe { bench_sine_plus_cosine(x(5)) }, rust(x(5)));
+    let ours = |x: f64| unsafe { bench_sine_plus_cosine(x) };
     line("a sine and cosine, up to 3 rad", best(1000, thousand(|i| ours(x(i))), thousand(|i| rust(x(i)))));
     let y = |i: usize| 0.00003 * i as f64;
     line("a sine and cosine, up to 0.03 rad", best(1000, thousand(|i| ours(y(i))), thousand(|i| rust(y(i)))));
