@@ -2,5 +2,6 @@
 pub mod Ascii
 pub mod Digits
 pub mod Lines
+pub mod Example
 pub mod Statements
 pub mod inside

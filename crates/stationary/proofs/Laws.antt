@@ -2,7 +2,7 @@
 -- are finite and above 0 neither is a NaN, so the larger is one of them and below neither. Assumes nothing.
 use Prim.Native.Nat.{ℕ}
 use mathlib.Core.Path.{_≡_, refl, sym}
-use mathlib.Core.Logic.{_⊎_, inl, inr}
+use mathlib.Core.Logic.{inl, inr}
 use mathlib.Core.Bool.{Bool, true, false, cond, not, _&&_, _||_, and-eq-true-iff, false≢true}
 use lib.Dec.{eqb}
 use lib.Ieee.{Float, isNan}
@@ -13,10 +13,11 @@ use Rattle.number.specs.Said.{Said, gives, refusal}
 use Rattle.number.proofs.Cases.{refused-not-given}
 use Rattle.number.proofs.float.Order.{<ᶠ-irreflexive}
 use Rattle.number.proofs.float.Monotone.{<ᶠ-≤ᶠ, not-below, finite-no-nan}
-use Rattle.robust.specs.Huber.{validHuber, joinedOf}
+use Rattle.robust.specs.Huber.{validHuber}
 use Rattle.stationary.specs.declared.StationaryFactor.{StationaryFactor}
 use Rattle.stationary.specs.Factor.{validFactor, validGyro, validSigmas, validWalk}
 use Rattle.stationary.specs.Join.{composeOf, finiteGyro, joinedFactor, joinedGyro}
+use Rattle.stationary.specs.Statements.{Looser, Joins}
 
 -- ---- which answer
 
@@ -44,13 +45,6 @@ first-alone true q h = (refl, h)
 first-alone false q h = absurd (false≢true (sym h))
 
 -- ---- the sigmas
-
--- the larger of two sigmas, finite and above 0
-pub record Looser (first second sigma : Float) : Type 0 where
-  pub fit : finitePositive sigma ≡ true
-  pub one-of-two : (sigma ≡ first) ⊎ (sigma ≡ second)
-  pub first-within : (first ≤ᶠ sigma) ≡ true
-  pub second-within : (second ≤ᶠ sigma) ≡ true
 
 fit-no-nan : (x : Float) → finitePositive x ≡ true → isNan x ≡ false
 unfolding finitePositive
@@ -94,24 +88,6 @@ valid-sigmas f h =
     record { translation = three .0; rotation = three .1; velocity = three .2 }
 
 -- ---- the join
-
--- what a composition that is given says of the two factors and of itself
-pub record Joins (a b f : StationaryFactor) : Type 0 where
-  pub first-valid : validFactor a ≡ true
-  pub second-valid : validFactor b ≡ true
-  pub meet : a .«to_idx» ≡ b .«from_idx»
-  pub first-start-kept : f .«from_idx» ≡ a .«from_idx»
-  pub last-end-kept : f .«to_idx» ≡ b .«to_idx»
-  pub ends-apart : f .«from_idx» ≡ f .«to_idx» → ⊥
-  pub spans-add : f .«span_s» ≡ a .«span_s» ⊕ b .«span_s»
-  pub span-finite : finite (f .«span_s») ≡ true
-  pub gyro-joined : f .gyro ≡ joinedGyro (a .gyro) (b .gyro)
-  pub gyro-finite : finiteGyro (f .gyro) ≡ true
-  pub first-calibration-kept : f .calib ≡ a .calib
-  pub limits-joined : f .«huber_chi2» ≡ joinedOf (a .«huber_chi2») (b .«huber_chi2»)
-  pub translation-looser : Looser (a .«translation_sigma_m») (b .«translation_sigma_m») (f .«translation_sigma_m»)
-  pub rotation-looser : Looser (a .«rotation_sigma_rad») (b .«rotation_sigma_rad») (f .«rotation_sigma_rad»)
-  pub velocity-looser : Looser (a .«velocity_sigma_m_s») (b .«velocity_sigma_m_s») (f .«velocity_sigma_m_s»)
 
 pub composition-joins : (a b f : StationaryFactor) → composeOf a b ≡ gives f → Joins a b f
 unfolding composeOf joinedFactor
