@@ -1,6 +1,6 @@
 -- 01, Refusal numbers: the number of every case of an inertial answer.
 use mathlib.Core.Bool.{Bool, true, false}
-use Rattle.number.specs.Said.{Said, gives, refused, refusal, Told}
+use Rattle.number.specs.Said.{Said, gives, refused, refusal, Told, told}
 use Rattle.imu.specs.declared.Outcome.{Outcome}
 use Rattle.imu.specs.declared.Outcome.the-variants as O
 
@@ -16,7 +16,7 @@ saidOutcome O.TooMany = refusal 13
 saidOutcome O.NoRoom = refusal 14
 
 abbrev pub toldWith : {A : Type 0} → Outcome → A → Told A
-toldWith outcome value = record { outcome = saidOutcome outcome; value = value }
+toldWith outcome value = told (saidOutcome outcome) value
 
 abbrev pub isGiven : Said (Unit {0}) → Bool
 isGiven (gives u) = true

@@ -35,8 +35,5 @@ halvingCount ratio =
 abbrev pub made : ℕ → Halved
 made k = record { count = k; parts = power k }
 
-abbrev pub firstHalvings : Float → Halved
-firstHalvings ratio = made (firstFrom 20 0 ratio)
-
 abbrev pub halvingsOf : Float → Halved
 halvingsOf ratio = made (halvingCount ratio)

@@ -32,12 +32,11 @@ pub record Told (A : Type 0) : Type 0 where
   pub outcome : Said (Unit {0})
   pub value : A
 
+abbrev pub told : {A : Type 0} → Said (Unit {0}) → A → Told A
+told o v = record { outcome = o; value = v }
+
 abbrev pub accepts : {A : Type 0} → A → Told A
-accepts v = record { outcome = gives tt; value = v }
+accepts v = told (gives tt) v
 
 abbrev pub refuses : {A : Type 0} → ℕ → A → Told A
-refuses n v = record { outcome = refusal n; value = v }
-
--- a refusal that carries values
-abbrev pub refusesWith : {A : Type 0} → ℕ → List Float → A → Told A
-refusesWith n values v = record { outcome = refused n values; value = v }
+refuses n v = told (refusal n) v

@@ -1,6 +1,6 @@
 // How often an interval is halved until each part is short enough.
 ghost use mathlib.Core.Path.{_≡_};
-ghost use Rattle.number.specs.Halving.{firstHalvings, halvingsOf};
+ghost use Rattle.number.specs.Halving.{firstFrom, halvingsOf, made};
 
 // So many halvings, and the number of equal parts that they make: 2^count.
 pub struct Halved {
@@ -24,7 +24,7 @@ pub fn halvings(ratio: f64) -> Halved
 
 // The first power of two, from 2^0 to 2^20, that is not below the ratio, or 2^20.
 fn first_halvings(ratio: f64) -> Halved
-    ensures { λ r. ⌜ r ≡ firstHalvings ratio ⌝ }
+    ensures { λ r. ⌜ r ≡ made (firstFrom 20 0 ratio) ⌝ }
 {
     let mut count: u32 = 0;
     let mut parts = 1.0;

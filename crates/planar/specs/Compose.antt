@@ -5,7 +5,7 @@ use lib.Ieee.{Float}
 use Rattle.number.specs.Float.{_⊕_, _⊖_, −_, _<ᶠ_, _≤ᶠ_, _when_else_}
 use Rattle.number.specs.Constants.{half, one, PI, TAU}
 use Rattle.number.specs.Constants.{zero as +0}
-use Rattle.number.specs.Said.{Said, gives, refusal, Told, accepts, refuses}
+use Rattle.number.specs.Said.{Said, gives, refusal, Told, told, accepts, refuses}
 use Rattle.sincos.specs.Turn.{turnOf, aboveFour}
 use Rattle.mat3.specs.Matrix.{rows, yaw, product, transform, transpose, sum, scaled}
 use Rattle.vec3.specs.Vector.{coordinate}
@@ -57,11 +57,7 @@ saidOutcome O.NonFinite = refusal 2
 saidOutcome O.AngleRange = refusal 8
 
 abbrev pub toldComposed : Composed → Told PlanarMotion
-toldComposed r = record { outcome = saidOutcome (r .outcome); value = r .motion }
-
--- a refusal beside no motion: the words of a private function
-abbrev pub refusedMotion : Outcome → Told PlanarMotion
-refusedMotion o = record { outcome = saidOutcome o; value = identity }
+toldComposed r = told (saidOutcome (r .outcome)) (r .motion)
 
 -- "Public composing refuses 2 for any input not finite, then 8 for a heading above 4 in size, then 2 for the result."
 unfoldable pub composeOf : PlanarMotion → PlanarMotion → Told PlanarMotion

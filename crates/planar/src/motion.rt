@@ -1,7 +1,8 @@
 // A planar motion with its covariance, and the composing of two, which refuses.
 ghost use mathlib.Core.Path.{_≡_};
-ghost use Rattle.planar.specs.Compose.{composeOf, refusedMotion, toldComposed};
-ghost use Rattle.planar.specs.Motion.{finiteMotion};
+ghost use Rattle.number.specs.Said.{told};
+ghost use Rattle.planar.specs.Compose.{composeOf, saidOutcome, toldComposed};
+ghost use Rattle.planar.specs.Motion.{finiteMotion, identity};
 use crate::Composed;
 use crate::Outcome;
 use crate::PlanarMotion;
@@ -47,7 +48,7 @@ impl PlanarMotion {
 
 // A refusal, beside no motion.
 fn refused(outcome: Outcome) -> Composed
-    ensures { λ r. ⌜ toldComposed r ≡ refusedMotion outcome ⌝ }
+    ensures { λ r. ⌜ toldComposed r ≡ told (saidOutcome outcome) identity ⌝ }
 {
     Composed {
         outcome,

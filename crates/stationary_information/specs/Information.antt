@@ -7,7 +7,7 @@ use lib.Ieee.{Float, nan}
 use Rattle.number.specs.Float.{_⊕_, _⊗_, _⊘_, _when_else_, finite}
 use Rattle.number.specs.Constants.{one, c12, zero as +0}
 use Rattle.number.specs.Fit.{inverseSquare}
-use Rattle.number.specs.Said.{Said, gives, refusal, Told, accepts, refuses}
+use Rattle.number.specs.Said.{Said, gives, refusal, Told, told, accepts, refuses}
 use Rattle.stationary.specs.declared.StationaryGyro.{StationaryGyro}
 use Rattle.stationary.specs.declared.GyroMean.{GyroMean}
 use Rattle.stationary.specs.declared.GyroMean.the-variants.{Unmeasured, Measured}
@@ -80,11 +80,7 @@ saidOutcome O.InvalidFactor = refusal 11
 saidOutcome O.NonFinite = refusal 2
 
 abbrev pub toldInformed : Informed → Told StationaryInfo
-toldInformed r = record { outcome = saidOutcome (r .outcome); value = r .info }
-
--- a refusal beside the blank
-abbrev pub refusedInfo : Outcome → Told StationaryInfo
-refusedInfo o = record { outcome = saidOutcome o; value = blankInfo }
+toldInformed r = told (saidOutcome (r .outcome)) (r .info)
 
 unfoldable pub informationOf : StationaryFactor → Told StationaryInfo
 informationOf f =

@@ -1,6 +1,7 @@
 // The information of each residual block of a still factor; every block is diagonal. From kornia's stationary.rs.
 ghost use mathlib.Core.Path.{_≡_};
-ghost use Rattle.stationary_information.specs.Information.{finiteInfo, finiteRow, gyroRow, infoOf, informationOf, poseDiagonal, refusedInfo, rowOf, toldInformed};
+ghost use Rattle.number.specs.Said.{told};
+ghost use Rattle.stationary_information.specs.Information.{blankInfo, finiteInfo, finiteRow, gyroRow, infoOf, informationOf, poseDiagonal, rowOf, saidOutcome, toldInformed};
 use stationary::GyroMean;
 use stationary::StationaryFactor;
 use stationary::StationaryGyro;
@@ -128,7 +129,7 @@ fn row(factor: StationaryFactor, g: StationaryGyro) -> f64
 
 // Why there is no information, beside the blank.
 fn refused(outcome: Outcome) -> Informed
-    ensures { λ r. ⌜ toldInformed r ≡ refusedInfo outcome ⌝ }
+    ensures { λ r. ⌜ toldInformed r ≡ told (saidOutcome outcome) blankInfo ⌝ }
 {
     Informed {
         outcome,

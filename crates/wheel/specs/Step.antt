@@ -1,5 +1,5 @@
 -- 01, The wheel step: what a reading that came through the order makes of the state.
-use Rattle.number.specs.Said.{Said, gives, refused, Told, accepts}
+use Rattle.number.specs.Said.{Said, gives, refused, Told, told, accepts}
 use Rattle.planar.specs.Motion.{heading}
 use Rattle.drive.specs.declared.WheelMeasurement.{WheelMeasurement}
 use Rattle.interval.specs.declared.Accumulated.{Accumulated}
@@ -14,7 +14,7 @@ use Rattle.wheel.specs.Integrator.{moved}
 
 -- 01, Refusal numbers: "A refused call returns the number and the state given in."
 abbrev pub unlessRefused : Said (Unit {0}) → WheelPreintegration → Told WheelPreintegration → Told WheelPreintegration
-unlessRefused (refused n values) s next = record { outcome = refused n values; value = s }
+unlessRefused (refused n values) s next = told (refused n values) s
 unlessRefused (gives u) s next = next
 
 -- what is accumulated with the interval

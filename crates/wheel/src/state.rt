@@ -1,8 +1,9 @@
 // Wheel odometry accumulated between the first and the last integrated reading. To go on from one stretch to the next, read the motion and restart:
 // the next interval starts at the last reading.
 ghost use mathlib.Core.Path.{_≡_};
-ghost use Rattle.number.specs.Said.{accepts};
-ghost use Rattle.wheel.specs.Answers.{refusedTold, toldAnswer};
+ghost use Rattle.number.specs.Said.{accepts, told};
+ghost use Rattle.drive.specs.Refusals.{saidRefusal};
+ghost use Rattle.wheel.specs.Answers.{toldAnswer};
 ghost use Rattle.wheel.specs.Integrator.{blank as blankOf, fresh as freshOf, makeOf, moved as movedOf, restarted};
 use crate::Answer;
 use crate::Last;
@@ -70,7 +71,7 @@ impl WheelPreintegration {
 
     // The state exactly as it came, beside why.
     pub(crate) fn refused(self, refusal: Refusal) -> Answer
-        ensures { λ r. ⌜ toldAnswer r ≡ refusedTold refusal self ⌝ }
+        ensures { λ r. ⌜ toldAnswer r ≡ told (saidRefusal refusal) self ⌝ }
     {
         let state = self;
         Answer {
@@ -106,7 +107,7 @@ fn fresh(settings: Settings) -> WheelPreintegration
 
 // Stands where there is no state.
 fn blank(refusal: Refusal) -> Answer
-    ensures { λ r. ⌜ toldAnswer r ≡ refusedTold refusal blankOf ⌝ }
+    ensures { λ r. ⌜ toldAnswer r ≡ told (saidRefusal refusal) blankOf ⌝ }
 {
     let state = fresh(Settings {
         drive: DifferentialDrive::BLANK,

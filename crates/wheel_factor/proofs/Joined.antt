@@ -7,7 +7,7 @@ use Rattle.wheel_odom.specs.declared.ComposedMeasurement.{ComposedMeasurement}
 use Rattle.wheel_odom.specs.declared.WheelOdomMeasurement.{WheelOdomMeasurement}
 use Rattle.wheel_odom.specs.Measurement.{composeOf, saidOutcome, toldMeasurement}
 use Rattle.wheel_factor.specs.declared.WheelOdomFactor.{WheelOdomFactor}
-use Rattle.wheel_factor.specs.Factor.{blankFactor, byMeasurement, composeFactorOf, isGiven, joinedFactor, refusedFactor}
+use Rattle.wheel_factor.specs.Factor.{blankFactor, byMeasurement, composeFactorOf, isGiven, joinedFactor}
 
 module _ (a b : WheelOdomFactor) where
   by-refusal : (t : Told WheelOdomMeasurement) (s : Said (Unit {0})) → not (isGiven s) ≡ true → _≡_ {A = Told WheelOdomFactor} (record { outcome = s; value = blankFactor }) (byMeasurement a b t s)
@@ -28,7 +28,7 @@ module _ (a b : WheelOdomFactor) where
     as-measured t e = ap (λ (t : Told WheelOdomMeasurement). byMeasurement a b t (t .outcome)) e ∙ simp (eq-eqb (a .«to_idx») (b .«from_idx») meet)
 
     module _ (r : ComposedMeasurement) (told : toldMeasurement r ≡ composeOf (a .measurement) (b .measurement)) where
-      pub refused-too : not (isGiven (saidOutcome (r .outcome))) ≡ true → refusedFactor (r .outcome) ≡ composeFactorOf a b
+      pub refused-too : not (isGiven (saidOutcome (r .outcome))) ≡ true → _≡_ {A = Told WheelOdomFactor} (record { outcome = saidOutcome (r .outcome); value = blankFactor }) (composeFactorOf a b)
       refused-too e = by-refusal (toldMeasurement r) (saidOutcome (r .outcome)) e ∙ as-measured (toldMeasurement r) told
 
       pub joined : not (isGiven (saidOutcome (r .outcome))) ≡ false → accepts (joinedFactor a b (r .measurement)) ≡ composeFactorOf a b

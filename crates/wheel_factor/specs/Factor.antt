@@ -5,7 +5,7 @@ use mathlib.Core.List.{[], _∷_}
 use lib.Dec.{eqb}
 use Rattle.number.specs.Float.{_when_else_}
 use Rattle.number.specs.Constants.{zero as +0}
-use Rattle.number.specs.Said.{Said, gives, refused, Told, accepts, refuses, refusesWith}
+use Rattle.number.specs.Said.{Said, gives, refused, Told, told, accepts, refuses}
 use Rattle.mat3.specs.Matrix.{zeros, finiteMatrix}
 use Rattle.vec3.specs.Vector.{finiteVector}
 use Rattle.robust.specs.Huber.{validHuber, joinedOf}
@@ -59,14 +59,10 @@ joinedFactor a b m = record {
 
 abbrev pub byMeasurement : WheelOdomFactor → WheelOdomFactor → Told WheelOdomMeasurement → Said (Unit {0}) → Told WheelOdomFactor
 byMeasurement a b t (gives u) = accepts (joinedFactor a b (t .value))
-byMeasurement a b t (refused n values) = refusesWith n values blankFactor
+byMeasurement a b t (refused n values) = told (refused n values) blankFactor
 
 abbrev pub toldFactor : ComposedFactor → Told WheelOdomFactor
-toldFactor r = record { outcome = saidOutcome (r .outcome); value = r .factor }
-
--- a refusal beside the blank: the words of a private function
-abbrev pub refusedFactor : Outcome → Told WheelOdomFactor
-refusedFactor o = record { outcome = saidOutcome o; value = blankFactor }
+toldFactor r = told (saidOutcome (r .outcome)) (r .factor)
 
 -- "a factor's gives 10 first, when the indices do not meet", then the measurement's refusals
 unfoldable pub composeFactorOf : WheelOdomFactor → WheelOdomFactor → Told WheelOdomFactor

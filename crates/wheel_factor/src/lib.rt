@@ -1,6 +1,7 @@
 // A wheel-odometry constraint between two keyframes, whether it can enter a solve, and the joining of two. From kornia's wheel_odom.rs.
 ghost use mathlib.Core.Path.{_≡_};
-ghost use Rattle.wheel_factor.specs.Factor.{composeFactorOf, factorOf, finiteExtrinsic, validFactor, isGiven, refusedFactor, toldFactor};
+ghost use Rattle.number.specs.Said.{told};
+ghost use Rattle.wheel_factor.specs.Factor.{blankFactor, composeFactorOf, factorOf, finiteExtrinsic, validFactor, isGiven, toldFactor};
 ghost use Rattle.wheel_odom.specs.Information.{saidInformation};
 ghost use Rattle.wheel_odom.specs.Measurement.{saidOutcome};
 use robust::Huber;
@@ -146,7 +147,7 @@ fn is_given(outcome: Information) -> bool
 }
 
 fn refused(outcome: Outcome) -> ComposedFactor
-    ensures { λ r. ⌜ toldFactor r ≡ refusedFactor outcome ⌝ }
+    ensures { λ r. ⌜ toldFactor r ≡ told (saidOutcome outcome) blankFactor ⌝ }
 {
     ComposedFactor {
         outcome,

@@ -6,7 +6,7 @@ use lib.Ieee.{Float}
 use Rattle.number.specs.Float.{_when_else_, finite}
 use Rattle.number.specs.Constants.{zero as +0}
 use Rattle.number.specs.Fit.{finitePositive, inverseSquare}
-use Rattle.number.specs.Said.{Said, gives, refusal, Told, accepts, refuses}
+use Rattle.number.specs.Said.{Said, gives, refusal, Told, told, accepts, refuses}
 use Rattle.sincos.specs.Turn.{aboveFour}
 use Rattle.mat3.specs.Matrix.{entry, finiteMatrix}
 use Rattle.planar.specs.Motion.{heading, finiteMotion}
@@ -51,15 +51,11 @@ saidInformation I.AngleRange = refusal 8
 saidInformation I.NonFinite = refusal 2
 
 abbrev pub toldInformed : Informed → Told (List Float)
-toldInformed r = record { outcome = saidInformation (r .outcome); value = r .matrix }
+toldInformed r = told (saidInformation (r .outcome)) (r .matrix)
 
 -- "no matrix"
 abbrev pub zeros36 : List Float
 zeros36 = replicate 36 +0
-
--- a refusal beside zeros: the words of a private function
-abbrev pub refusedInformation : Information → Told (List Float)
-refusedInformation o = record { outcome = saidInformation o; value = zeros36 }
 
 -- "failing any gives 9. Then 8 for the heading, then 2 if an output is not finite (added)."
 unfoldable pub informationOf : WheelOdomMeasurement → Told (List Float)

@@ -6,7 +6,7 @@ use Rattle.number.specs.Float.{_⊕_, _⊗_, _when_else_, finite}
 use Rattle.number.specs.Constants.{c0·01}
 use Rattle.number.specs.Constants.{zero as +0}
 use Rattle.root.specs.Root.{sqrtOf}
-use Rattle.number.specs.Said.{Said, gives, refusal, Told, accepts, refuses}
+use Rattle.number.specs.Said.{Said, gives, refusal, Told, told, accepts, refuses}
 use Rattle.root.specs.Root.{orNan}
 use Rattle.sincos.specs.Turn.{aboveFour}
 use Rattle.planar.specs.declared.PlanarMotion.{PlanarMotion}
@@ -56,11 +56,7 @@ saidOutcome O.AngleRange = refusal 8
 saidOutcome O.NotJoined = refusal 10
 
 abbrev pub toldMeasurement : ComposedMeasurement → Told WheelOdomMeasurement
-toldMeasurement r = record { outcome = saidOutcome (r .outcome); value = r .measurement }
-
--- a refusal beside the blank: the words of a private function
-abbrev pub refusedMeasurement : Outcome → Told WheelOdomMeasurement
-refusedMeasurement o = record { outcome = saidOutcome o; value = blank }
+toldMeasurement r = told (saidOutcome (r .outcome)) (r .measurement)
 
 -- "A measurement's composition gives the planar refusals, the sigmas counted only in the result's 2, not in the input's"
 unfoldable pub composeOf : WheelOdomMeasurement → WheelOdomMeasurement → Told WheelOdomMeasurement

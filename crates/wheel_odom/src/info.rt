@@ -1,6 +1,7 @@
 // The information of a measurement over the residual tangent [x, y, z, roll, pitch, yaw].
 ghost use mathlib.Core.Path.{_≡_};
-ghost use Rattle.wheel_odom.specs.Information.{hasInformation, informationOf, refusedInformation, spread as spreadOf, toldInformed};
+ghost use Rattle.number.specs.Said.{told};
+ghost use Rattle.wheel_odom.specs.Information.{hasInformation, informationOf, saidInformation, spread as spreadOf, toldInformed, zeros36};
 use crate::Information;
 use crate::Informed;
 use crate::WheelOdomMeasurement;
@@ -43,7 +44,7 @@ impl WheelOdomMeasurement {
 }
 
 fn refused(outcome: Information) -> Informed
-    ensures { λ r. ⌜ toldInformed r ≡ refusedInformation outcome ⌝ }
+    ensures { λ r. ⌜ toldInformed r ≡ told (saidInformation outcome) zeros36 ⌝ }
 {
     Informed {
         outcome,

@@ -1,6 +1,7 @@
 // Wheel-odometry motion of the base between two keyframes, lifted out of the plane by two stiff sigmas.
 ghost use mathlib.Core.Path.{_≡_};
-ghost use Rattle.wheel_odom.specs.Measurement.{composeOf, composedMeasurement, finiteMeasurement, joinedSigma, motionOf, ofMotion, refusedMeasurement, toldMeasurement, withDefaults, withSigmas};
+ghost use Rattle.number.specs.Said.{told};
+ghost use Rattle.wheel_odom.specs.Measurement.{blank, composeOf, composedMeasurement, finiteMeasurement, joinedSigma, motionOf, ofMotion, saidOutcome, toldMeasurement, withDefaults, withSigmas};
 use crate::ComposedMeasurement;
 use crate::Outcome;
 use crate::WheelOdomMeasurement;
@@ -104,7 +105,7 @@ impl WheelOdomMeasurement {
 }
 
 fn refused(outcome: Outcome) -> ComposedMeasurement
-    ensures { λ r. ⌜ toldMeasurement r ≡ refusedMeasurement outcome ⌝ }
+    ensures { λ r. ⌜ toldMeasurement r ≡ told (saidOutcome outcome) blank ⌝ }
 {
     ComposedMeasurement {
         outcome,

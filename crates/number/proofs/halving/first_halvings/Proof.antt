@@ -9,7 +9,7 @@ use borrow.Author.Tests.{not-true, not-false}
 use lib.Ieee.{Float}
 use Rattle.number.specs.declared.halving.Halved.{Halved}
 use Rattle.number.specs.Float.{_⊕_, _<ᶠ_}
-use Rattle.number.specs.Halving.{power, firstFrom, made, firstHalvings}
+use Rattle.number.specs.Halving.{power, firstFrom, made}
 use Rattle.number.proofs.halving.Powers.{power-doubles, power-none}
 use Rattle.number.proofs.halving.Least.{first-more, first-done, first-none}
 use Rattle.number.proofs.halving.first_halvings.Statement.{statement}
@@ -47,7 +47,7 @@ spent ratio count parts t h = t .found ∙ ap (λ (n : ℕ). firstFrom n count r
     none : (count : ℕ) → 20 ≤ count → 20 - count ≡ 0
     none count h = omega arith
 
-answer : (ratio : Float) (count : ℕ) (parts : Float) → Tried ratio count parts → firstFrom 20 0 ratio ≡ count → _≡_ {A = Halved} (record { count = count; parts = parts }) (firstHalvings ratio)
+answer : (ratio : Float) (count : ℕ) (parts : Float) → Tried ratio count parts → firstFrom 20 0 ratio ≡ count → _≡_ {A = Halved} (record { count = count; parts = parts }) (made (firstFrom 20 0 ratio))
 answer ratio count parts t e = (λ i. record { count = count; parts = t .doubled i }) ∙ ap made (sym e)
 
 loop-holds : tie.Need-loop-holds Inv-loop μ-loop
