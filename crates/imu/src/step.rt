@@ -45,7 +45,7 @@ impl PreintegratedImu {
 }
 
 impl PreintegratedImu {
-    pub fn refused(self, outcome: Outcome) -> Integrated
+    fn refused(self, outcome: Outcome) -> Integrated
         ensures { λ r. ⌜ toldIntegrated r ≡ toldWith outcome self ⌝ }
     {
         Integrated {
