@@ -1,16 +1,15 @@
 #!/usr/bin/env python3
-"""Tries tools/log on every log of examples/ and of crates/replay_cases/stdin, and on logs of random bits: a sound one has to come back from its
+"""Tries tools/log on every log of tools/replay_cases.py, those of examples/ among them, and on logs of random bits: a sound one has to come back from its
 CSV byte for byte, a broken one to be refused. Which is which is asked of tools/replay_cases.py. Run it from anywhere, with no arguments.
 """
 import random
-import struct
 import sys
 from importlib.machinery import SourceFileLoader
 from pathlib import Path
 from types import ModuleType
 
 sys.dont_write_bytecode = True
-from replay_cases import lines_of
+from replay_cases import all_logs, lines_of
 from walk import PARAMETERS, Reading, packed
 
 top = Path(__file__).resolve().parent.parent
@@ -24,12 +23,7 @@ SPECIAL = POSITIVE + [2**63 + bits for bits in POSITIVE]
 
 
 def logs():
-    data = (top / "crates" / "replay_cases" / "stdin").read_bytes()
-    while data:
-        size = 8 + struct.unpack_from("<Q", data)[0]
-        yield data[8:size]
-        data = data[size:]
-    yield from (path.read_bytes() for path in sorted((top / "examples").glob("*.log")))
+    yield from all_logs()
     chance = random.Random(1)
 
     def word():

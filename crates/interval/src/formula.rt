@@ -51,7 +51,7 @@ fn ratio(dt: f64, wz: f64) -> f64
 
 // The motion over all substeps. Mapping a whole interval's noise through one exponential Jacobian would treat it as a constant perturbation and lose
 // the variance that white noise builds up along a turn; the two halves' noise is independent.
-pub fn interval_motion(drive: DifferentialDrive, noise: WheelNoise, i: Interval) -> PlanarMotion
+fn interval_motion(drive: DifferentialDrive, noise: WheelNoise, i: Interval) -> PlanarMotion
     ensures { λ r. ⌜ r ≡ intervalMotion drive noise i ⌝ }
 {
     let v = i.twist;

@@ -19,7 +19,7 @@ pub fn determinant(m: [f64; 9]) -> f64
 }
 
 // Each entry is the cofactor of the entry across the diagonal.
-pub fn adjugate(m: [f64; 9]) -> [f64; 9]
+fn adjugate(m: [f64; 9]) -> [f64; 9]
     ensures { λ r. ⌜ r ≡ adjugateOf m ⌝ }
 {
     let m00 = m[0];

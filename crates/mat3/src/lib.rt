@@ -127,7 +127,7 @@ pub fn second_column(m: [f64; 9]) -> [f64; 3]
 }
 
 // The third column of a matrix.
-pub fn third_column(m: [f64; 9]) -> [f64; 3]
+fn third_column(m: [f64; 9]) -> [f64; 3]
     ensures { λ r. ⌜ r ≡ columnOf m 2 ⌝ }
 {
     [m[6], m[7], m[8]]

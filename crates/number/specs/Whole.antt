@@ -23,6 +23,7 @@ apart a b = (a - b) + (b - a)
 abbrev pub gap : ℕ → ℕ
 gap N = 2 ^ (Ieee.size N - 53)
 
+-- `HasValue x s a b`, the toolchain's: x is finite, has the sign s, minus where s is true, and is a / b in size.
 -- r is an f64 nearest to n: with n's sign it is a whole number q of gaps, no further from n than half the gap, and q is even at a tie
 pub record IsNearest (n : ℤ) (r : Float) : Type 0 where
   pub q : ℕ
