@@ -1,5 +1,5 @@
 #!/usr/bin/env python3
-"""Makes the three logs of this folder and, beside each, what its replay prints: hall.log, creep.log, rates.log, and their .out files.
+"""Makes the four logs of this folder and, beside each, what its replay prints: hall.log, creep.log, rates.log, turnover.log, and their .out files.
 
 None of it was measured. Each walk is worked out from a plan, with small disturbances from a linear congruential generator that starts from
 the same number, and in basic arithmetic alone, so that the files are the same wherever this is run. What the replay prints comes from
@@ -17,8 +17,8 @@ sys.dont_write_bytecode = True
 sys.path.insert(0, str(here.parent / "tools"))
 from replay_cases import lines_of, log_of, rates, ticks
 
-# one cart: metres, metres, encoder counts per turn of a wheel
-RADIUS, TRACK, PER_TURN = 0.1, 0.5, 65536.0
+# one cart: metres, metres, encoder counts per turn of a wheel, bits of a counter
+RADIUS, TRACK, PER_TURN, WIDTH = 0.1, 0.5, 65536.0, 64
 PER_METRE = PER_TURN / (math.tau * RADIUS)
 
 seed = 1
@@ -43,10 +43,10 @@ PLAN = [(2, 0.0, 0.0)] + SIDES + SIDES + [(2, 0.0, 0.0)]
 DURATION = sum(seconds for seconds, _, _ in PLAN)
 
 
-def planned(time):
+def planned(plan, time):
     """Distance and heading at this time of the plan."""
     distance, heading = 0.0, 0.0
-    for seconds, metres, radians in PLAN:
+    for seconds, metres, radians in plan:
         p = min(max(time / seconds, 0.0), 1.0)
         done = p * p * (3 - 2 * p)
         distance, heading, time = distance + done * metres, heading + done * radians, time - seconds
@@ -58,7 +58,7 @@ def hall():
     for i in range(10 * DURATION + 1):
         # milliseconds, and the clock does not tick quite evenly
         clock = 100 * i + math.floor(random_between(-3.0, 4.0))
-        distance, heading = planned(clock / 1000)
+        distance, heading = planned(PLAN, clock / 1000)
         # hands are not steady: while the cart rolls it sways a little to both sides of its line
         sway += (random_between(-0.06, 0.06) - 1.5 * sway) * (distance - before)
         before = distance
@@ -69,7 +69,7 @@ def hall():
     readings[1700:1702] = [readings[1701], readings[1700]]
     readings[1200:1200] = [readings[1200]]
     readings[700] = ticks((51342000 + 70000) / 1000, 0, 0, 0)
-    return log_of([RADIUS, TRACK, PER_TURN, 0.002, 0.001], readings)
+    return log_of([RADIUS, TRACK, PER_TURN, 0.002, 0.001, WIDTH], readings)
 
 
 # ---- creep.log: eleven millimetres in an hour, a reading every five seconds
@@ -83,7 +83,7 @@ def creep():
         rolled = 0.011 * (part / along[-1]) * PER_METRE
         # the two counts do not change at the same moment
         readings.append(ticks(5.0 * i, 80211 + math.floor(rolled + 0.3), 79960 + math.floor(rolled + 0.8)))
-    return log_of([RADIUS, TRACK, PER_TURN, 0.0001, 0.00001], readings)
+    return log_of([RADIUS, TRACK, PER_TURN, 0.0001, 0.00001, WIDTH], readings)
 
 
 # ---- rates.log: a quarter of a circle of 16 metres radius to the left, twenty readings a second
@@ -99,11 +99,30 @@ def curve():
         # the rate counters give thousandths of a radian per second, and are out by up to five of them
         given = [round(1000 * (v / RADIUS) + random_between(-5.0, 5.0)) / 1000 if now else 0.0 for v in (left, right)]
         readings.append(rates(i / 20, *given))
-    return log_of([RADIUS, TRACK, PER_TURN, 0.002, 0.001], readings)
+    return log_of([RADIUS, TRACK, PER_TURN, 0.002, 0.001, WIDTH], readings)
+
+
+# ---- turnover.log: newer encoders, 4,096 counts to a turn of a wheel and counters of 16 bits, which start again at 0 every 10 metres. Five metres ahead, a
+# quarter turn to the left, two metres back, ten readings a second
+
+NEWER_PER_TURN, NEWER_WIDTH = 4096.0, 16
+THERE_AND_BACK = [(1, 0.0, 0.0), (11, 5.0, 0.0), (4, 0.0, math.pi / 2), (6, -2.0, 0.0), (1, 0.0, 0.0)]
+
+
+def turnover():
+    readings, per_metre = [], NEWER_PER_TURN / (math.tau * RADIUS)
+    for i in range(10 * sum(seconds for seconds, _, _ in THERE_AND_BACK) + 1):
+        paths = wheel_paths(*planned(THERE_AND_BACK, i / 10))
+        # both counters pass their end on the way ahead, and once more on the way back
+        left, right = ((start + math.floor(path * per_metre)) % 2**NEWER_WIDTH for start, path in zip((40000, 40010), paths))
+        readings.append(ticks(i / 10, left, right))
+    # an encoder that is asked too soon, and answers with 32 bits that are all set
+    readings[120] = ticks(12.0, 2**32 - 1, 2**32 - 1)
+    return log_of([RADIUS, TRACK, NEWER_PER_TURN, 0.002, 0.001, NEWER_WIDTH], readings)
 
 
 def main():
-    for name, log in (("hall", hall()), ("creep", creep()), ("rates", curve())):
+    for name, log in (("hall", hall()), ("creep", creep()), ("rates", curve()), ("turnover", turnover())):
         assert len(log) <= 65536
         (here / f"{name}.log").write_bytes(log)
         (here / f"{name}.out").write_bytes(lines_of(log))

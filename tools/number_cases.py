@@ -2,8 +2,8 @@
 """Makes crates/number_cases/stdin (the records that ask the number leaves) and crates/number_cases/stdout (what each answers, in bits).
 
 No expected value comes from the code under test. Whole numbers, roots and the f64s of references are rounded here from exact fractions,
-ties to even; roots come from whole-number square roots; sines and cosines are Taylor sums of 90 decimal digits; tick differences and
-halving counts are the words of 01 in whole numbers and fractions. Of `math` only isqrt and floor are used, which are exact. The evaluation
+ties to even; roots come from whole-number square roots; sines and cosines are Taylor sums of 90 decimal digits; tick differences, the
+ranges of counters and halving counts are the words of 01 and 02 in whole numbers and fractions. Of `math` only isqrt and floor are used, which are exact. The evaluation
 of docs/SINCOS.md is that of tools/wheel_cases.py.
 
 The list is fixed: its random part is a linear congruential generator that starts from the same number. Run it from anywhere, with no
@@ -102,21 +102,45 @@ def wholes():
     return [([1, n], [nearest(n)]) for n in ns if -(2**63) <= n < 2**63]
 
 
-# ---- 2: tick counts, from and to, with the difference. 01: "taken modulo 2^64 as a signed number. From 2^63-1 to -2^63 it is 1."
+# ---- 2: a counter width and tick counts, from and to, with the difference. 01: "taken modulo 2^64 as a signed number. From 2^63-1 to -2^63 it is 1." 02,
+# W-201: "the signed one modulo 2^width, from −2^(width−1) upward"; a width that is none reads as 64
+
+OTHER_WIDTHS = [0, 65, 66, 128, 2**32, 2**32 + 16, 2**63 + 24, 2**64 - 1]
 
 
 def ticks():
     ends = [0, 1, -1, 2, -2, 2**31, -(2**31), 2**62, -(2**62), 2**63 - 1, 2**63 - 2, -(2**63), -(2**63) + 1]
-    pairs = [(a, b) for a in ends for b in ends]
+    pairs = [(64, a, b) for a in ends for b in ends]
     for _ in range(200):
         a, step = random_from(-(2**63), 2**63 - 1), random_from(-1000, 1000)
-        pairs += [(a, signed(a + step)), (a, random_from(-(2**63), 2**63 - 1))]
-        pairs += [(signed(2**63 + step), signed(2**63 - step))]  # across the wrap, either way
-    return [([2, a, b], [signed(b - a)]) for a, b in pairs]
+        pairs += [(64, a, signed(64, a + step)), (64, a, random_from(-(2**63), 2**63 - 1))]
+        pairs += [(64, signed(64, 2**63 + step), signed(64, 2**63 - step))]  # across the wrap, either way
+    for width in [*range(1, 65), *OTHER_WIDTHS]:
+        w = width if width in range(1, 65) else 64
+        half, base = 2 ** (w - 1), random_from(-(2**63), 2**63 - 1)
+        # none, one either way, half the range and beside it, a whole turn and beside it, from where a counter begins and ends and from anywhere
+        steps = [0, 1, -1, half - 1, half, half + 1, -half + 1, -half, -half - 1, 2 * half - 1, 2 * half, 2 * half + 1]
+        pairs += [(width, a, signed(64, a + step)) for a in (0, 2 * half - 1, base) for step in steps if -(2**63) <= a < 2**63]
+        pairs += [(width, base, random_from(-(2**63), 2**63 - 1)), (width, -(2**63), 2**63 - 1), (width, 2**63 - 1, -(2**63))]
+    return [([2, width, a, b], [signed(width if width in range(1, 65) else 64, b - a)]) for width, a, b in pairs]
 
 
-def signed(n):
-    return (n + 2**63) % 2**64 - 2**63
+def signed(width, n):
+    """The number from −2^(width−1) upward that is n modulo 2^width."""
+    half = 2 ** (width - 1)
+    return (n + half) % (2 * half) - half
+
+
+# ---- 6: a counter width and a tick count, with whether it is in range. 02, W-201: "Below 64 a tick must lie in 0 to 2^width−1"
+
+
+def ranges():
+    cases = []
+    for width in [*range(64), 64, *OTHER_WIDTHS[1:]]:
+        end = 2 ** min(width, 64)
+        counts = [0, 1, -1, end - 1, end, end + 1, -end, end // 2, 2**63 - 1, -(2**63), random_from(-(2**63), 2**63 - 1)]
+        cases += [([6, width, n], [int(width >= 64 or 0 <= n < end)]) for n in counts if -(2**63) <= n < 2**63]
+    return cases
 
 
 # ---- 3: roots. 01: "0 keeps its sign, +infinity gives itself, negative or NaN is refused 2."
@@ -251,4 +275,4 @@ def count(bits, limit):
     return next((k for k in range(20) if 2**k >= value(bits)), 20)
 
 
-write("number_cases", wholes() + ticks() + roots() + turns() + refused_angles() + halvings())
+write("number_cases", wholes() + ticks() + ranges() + roots() + turns() + refused_angles() + halvings())

@@ -1,5 +1,5 @@
-"""The bytes of a log, for the tools that a person uses (tools/log, tools/show): 01, "The log". tools/replay_cases.py states the same layout for
-itself, since the cases that the gate runs come from there.
+"""The bytes of a log, for the tools that a person uses (tools/log, tools/show): 01, "The log", with the counter width of 02's W-201. tools/replay_cases.py
+states the same layout for itself, since the cases that the gate runs come from there.
 
 Every number of a log is kept as a word, the whole number that its 64 bits are, so that no bit goes by way of a float.
 """
@@ -19,14 +19,20 @@ class Field(NamedTuple):
     meaning: str
 
 
-# "parameters (count 1; radius, track, ticks per turn, wheel noise, lateral noise as f64)". The order is the log's.
+# "parameters (count 1; radius, track, ticks per turn, wheel noise, lateral noise as f64)"; W-201: "the width as a u64 at its end (48 bytes)". The order is the
+# log's.
 PARAMETERS = [
     Field("radius", "f64", "m: radius of the wheels"),
     Field("track", "f64", "m: from one wheel's point of contact to the other's"),
     Field("ticks_per_turn", "f64", "encoder counts to one turn of a wheel"),
     Field("wheel_noise", "f64", "rad/s/√Hz: noise of each wheel's rate"),
     Field("lateral_noise", "f64", "m/s/√Hz: noise of slipping sideways"),
+    Field("counter_width", "u64", "bits of the encoders' counters, 16, 24, 32 or 64: below 64 they start again at 0"),
 ]
+
+# Older layouts: the parameters that each had, in order, and what those that it lacked stood for. No log is sound in two layouts: they differ by some eights of
+# bytes, and a reading has 26.
+OLDER = [(["radius", "track", "ticks_per_turn", "wheel_noise", "lateral_noise"], {"counter_width": 64})]
 
 # "kind 0 ticks or 1 rates": the form of left and right by the kind's number
 KINDS = [Field("ticks", "i64", "cumulative encoder counts"), Field("rates", "f64", "rad/s")]
@@ -58,7 +64,14 @@ def count_at(log, at):
 
 
 def faults(log):
-    """What breaks the layout, in words: its sizes, or, where these are sound, every kind and flag. A log without any fault is sound."""
+    """What breaks the layout, in words. A log without any fault is sound."""
+    if older(log):
+        return ["it has an older layout, without all the parameters of today's: 'tools/log renew OLD.log NEW.log' carries it over, and says what it sets"]
+    return broken(log)
+
+
+def broken(log):
+    """Its sizes, or, where these are sound, every kind and flag."""
     found = []
     if len(log) > MOST_BYTES:
         found.append(f"it has more than {MOST_BYTES:,} bytes, which is the most that a log may have ({MOST_READINGS:,} readings)")
@@ -80,6 +93,19 @@ def faults(log):
         if flag >= len(FLAGS):
             found.append(f"reading {i}: its flag is {flag}, and has to be {numbered(FLAGS)}")
     return found
+
+
+def older(log):
+    """The same log in today's layout and what had to be set for it, by name, if it is a sound one of an older layout."""
+    for names, lacking in OLDER:
+        end = PARAMETERS_AT + 8 * len(names)
+        if len(log) < end:
+            continue
+        given = {**dict(zip(names, struct.unpack_from(f"<{len(names)}Q", log, PARAMETERS_AT))), **lacking}
+        now = log[:PARAMETERS_AT] + struct.pack(f"<{len(PARAMETERS)}Q", *(given[field.name] for field in PARAMETERS)) + log[end:]
+        if not broken(now):
+            return now, lacking
+    return None
 
 
 def numbered(names):
@@ -135,6 +161,12 @@ def f64_word(text):
     return raw(x)
 
 
+def u64_word(text):
+    if not WHOLE.fullmatch(text) or not 0 <= int(text) < 2**64:
+        raise ValueError(f"a whole number is expected, from 0 to {2**64 - 1}")
+    return int(text)
+
+
 def i64_text(word):
     return str(word - 2**64 if word >= 2**63 else word)
 
@@ -145,7 +177,7 @@ def i64_word(text):
     return int(text) % 2**64
 
 
-FORMS = {"f64": (f64_text, f64_word), "i64": (i64_text, i64_word)}
+FORMS = {"f64": (f64_text, f64_word), "i64": (i64_text, i64_word), "u64": (str, u64_word)}
 
 
 def text_of(form, word):

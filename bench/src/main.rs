@@ -116,6 +116,8 @@ fn log(n: usize) -> Vec<u8> {
     for x in [0.1f64, 0.5, 65536.0, 0.05, 0.01] {
         log.extend(x.to_le_bytes());
     }
+    // the Rust's counters have 64 bits
+    log.extend(64u64.to_le_bytes());
     log.extend((n as u32).to_le_bytes());
     log.extend(walk(n, 10.0).bytes);
     log
@@ -135,7 +137,7 @@ fn rust_replay(log: &[u8]) -> usize {
     let mut s = WheelPreintegration::new(drive, noise).unwrap();
     let mut text = String::with_capacity(65536);
     let mut accepted = 0;
-    for (i, r) in log[48..].chunks_exact(26).enumerate() {
+    for (i, r) in log[56..].chunks_exact(26).enumerate() {
         let time = f64_at(r, 2);
         let mut m = match r[0] {
             0 => WheelMeasurement::ticks(time, [i64_at(r, 10), i64_at(r, 18)]),

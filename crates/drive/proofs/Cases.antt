@@ -26,7 +26,8 @@ numbered r =
     R.MixedReadings when eqb (r .number) 5 else
     R.InvalidNoise when eqb (r .number) 6 else
     R.InvalidKinematics when eqb (r .number) 7 else
-    R.AngleRange
+    R.AngleRange when eqb (r .number) 8 else
+    R.TickRange
 
 pub refusal-back : (r : Refusal) → numbered (rowOf r) ≡ r
 refusal-back R.Invalid = refl
@@ -37,6 +38,7 @@ refusal-back R.MixedReadings = refl
 refusal-back R.InvalidNoise = refl
 refusal-back R.InvalidKinematics = refl
 refusal-back R.AngleRange = refl
+refusal-back R.TickRange = refl
 
 -- an answer that gives a value or is refused, from what it says
 abbrev pub read : {A B : Type 0} → (A → B) → (Refusal → B) → Said A → B

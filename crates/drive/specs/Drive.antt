@@ -1,6 +1,8 @@
--- 01, The wheel step: "Twist", "Rate from ticks", "Rate from rates", and "asked for on their own".
-use mathlib.Core.Bool.{Bool, not, _&&_}
+-- 01, The wheel step: "Twist", "Rate from ticks", "Rate from rates", and "asked for on their own"; 02, W-201: the counter width.
+use Prim.Native.Nat.{ℕ}
+use mathlib.Core.Bool.{Bool, not, _&&_, _||_}
 use mathlib.Core.List.{[], _∷_}
+use lib.Dec.{eqb}
 use lib.IntN.{ℤ}
 use lib.Ieee.{Float}
 use Rattle.number.specs.Float.{_⊕_, _⊖_, _⊗_, _⊘_, −_, _<ᶠ_, _=ᶠ_, _when_else_, finite}
@@ -17,13 +19,21 @@ use Rattle.drive.specs.declared.WheelRates.{WheelRates}
 use Rattle.drive.specs.declared.Reading.{Reading}
 use Rattle.drive.specs.declared.Reading.the-variants.{Ticks, AngularVelocity}
 
--- 01, Refusal numbers, 7: "radius, track or ticks per turn not finite and above 0"
+-- 02, W-201: "a counter width of 16, 24, 32 or 64"
+abbrev pub isWidth : ℕ → Bool
+isWidth w = eqb w 16 || eqb w 24 || eqb w 32 || eqb w 64
+
+-- 01, Refusal numbers, 7: "radius, track or ticks per turn not finite and above 0"; 02, W-201: "another width is 7"
 unfoldable pub validDrive : DifferentialDrive → Bool
-validDrive d = finitePositive (d .«wheel_radius») && finitePositive (d .«track_width») && finitePositive (d .«ticks_per_revolution»)
+validDrive d =
+    finitePositive (d .«wheel_radius»)
+    && finitePositive (d .«track_width»)
+    && finitePositive (d .«ticks_per_revolution»)
+    && isWidth (d .«counter_width»)
 
 -- "no state": every number +0
 abbrev pub blankDrive : DifferentialDrive
-blankDrive = record { «wheel_radius» = +0; «track_width» = +0; «ticks_per_revolution» = +0 }
+blankDrive = record { «wheel_radius» = +0; «track_width» = +0; «ticks_per_revolution» = +0; «counter_width» = 0 }
 
 -- ---- the twist
 
@@ -88,9 +98,13 @@ ratesAsked d left right dt =
 unfoldable pub meanRates : Float → Float → Float → Float → WheelRates
 meanRates left right left′ right′ = rates (half ⊗ (left ⊕ left′)) (half ⊗ (right ⊕ right′))
 
+-- how far a wheel's counter went
+abbrev pub counted : DifferentialDrive → ℤ → ℤ → ℤ
+counted d from to = tickDifference (d .«counter_width») from to
+
 -- The rates over the time dt from one reading to the next of its kind. Readings of two kinds are refused before their rates are asked for.
 abbrev pub ratesBetween : DifferentialDrive → Reading → Reading → Float → WheelRates
-ratesBetween d (Ticks left right) (Ticks left′ right′) dt = ratesFromTicks d (tickDifference left left′) (tickDifference right right′) dt
+ratesBetween d (Ticks left right) (Ticks left′ right′) dt = ratesFromTicks d (counted d left left′) (counted d right right′) dt
 ratesBetween d (AngularVelocity left right) (AngularVelocity left′ right′) dt = meanRates left right left′ right′
 ratesBetween d (Ticks left right) (AngularVelocity left′ right′) dt = rates +0 +0
 ratesBetween d (AngularVelocity left right) (Ticks left′ right′) dt = rates +0 +0

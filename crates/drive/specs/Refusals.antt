@@ -1,4 +1,4 @@
--- 01, Refusal numbers: the number and the values of every case of an answer.
+-- 01, Refusal numbers: the number and the values of every case of an answer; 16 is 02's, W-201.
 use mathlib.Core.List.{[], _∷_}
 use Rattle.number.specs.Said.{Said, gives, Row, row, rowWith, refusedBy}
 use Rattle.drive.specs.declared.Refusal.{Refusal}
@@ -22,6 +22,7 @@ rowOf R.MixedReadings = row 5
 rowOf R.InvalidNoise = row 6
 rowOf R.InvalidKinematics = row 7
 rowOf R.AngleRange = row 8
+rowOf R.TickRange = row 16
 
 abbrev pub saidRefusal : {A : Type 0} → Refusal → Said A
 saidRefusal r = refusedBy (rowOf r)

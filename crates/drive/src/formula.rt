@@ -69,8 +69,8 @@ pub fn rates_between(drive: DifferentialDrive, from: Reading, to: Reading, dt: f
     match from {
         Reading::Ticks(left, right) => match to {
             Reading::Ticks(l, r) => {
-                let dl = number::tick_difference(left, l);
-                let dr = number::tick_difference(right, r);
+                let dl = number::tick_difference(drive.counter_width, left, l);
+                let dr = number::tick_difference(drive.counter_width, right, r);
                 rates_from_ticks(drive, dl, dr, dt)
             }
             Reading::AngularVelocity(_, _) => WheelRates {

@@ -1,6 +1,6 @@
 // Two independently driven wheels on a common axle: their rates, the base's twist, and how the twist moves with the rates.
 ghost use mathlib.Core.Path.{_≡_};
-ghost use Rattle.drive.specs.Drive.{finiteTwist, validDrive, jacobianAsked, ratesAsked, twistAsked};
+ghost use Rattle.drive.specs.Drive.{finiteTwist, isWidth, validDrive, jacobianAsked, ratesAsked, twistAsked};
 ghost use Rattle.drive.specs.Refusals.{saidJacobian, saidRated, saidTwisted};
 use crate::BodyTwist;
 use crate::DifferentialDrive;
@@ -25,15 +25,17 @@ impl DifferentialDrive {
         wheel_radius: 0.0,
         track_width: 0.0,
         ticks_per_revolution: 0.0,
+        counter_width: 0,
     };
 
-    // Each parameter is finite and above 0.
+    // Each length and the counts per turn are finite and above 0, and there are counters of that width.
     pub fn is_valid(self) -> bool
         ensures { λ r. ⌜ r ≡ validDrive self ⌝ }
     {
         number::is_finite_positive(self.wheel_radius)
             & number::is_finite_positive(self.track_width)
             & number::is_finite_positive(self.ticks_per_revolution)
+            & is_width(self.counter_width)
     }
 
     // The base's twist from the wheels' angular velocities.
@@ -91,4 +93,11 @@ impl DifferentialDrive {
         }
         Rated::Rates(w)
     }
+}
+
+// The widths that encoders come in.
+fn is_width(width: u64) -> bool
+    ensures { λ r. ⌜ r ≡ isWidth width ⌝ }
+{
+    (width == 16) | (width == 24) | (width == 32) | (width == 64)
 }

@@ -54,11 +54,13 @@ pub enum Rated {
     Refused(Refusal),
 }
 
-// Wheel radius and distance between the wheels' contact points in metres, encoder counts per wheel turn.
+// Wheel radius and distance between the wheels' contact points in metres, encoder counts per wheel turn, and the bits of the encoders' counters:
+// below 64 they start again at 0 where they are full.
 pub struct DifferentialDrive {
     pub wheel_radius: f64,
     pub track_width: f64,
     pub ticks_per_revolution: f64,
+    pub counter_width: u64,
 }
 
 // Per-wheel angular velocity noise in rad/s/√Hz, and lateral (side-slip) velocity noise of the base in m/s/√Hz. A differential drive has no
@@ -81,8 +83,10 @@ pub enum Refusal {
     MixedReadings,
     // A noise number is not finite or below 0.
     InvalidNoise,
-    // Radius, track or ticks per turn is not finite and above 0.
+    // Radius, track or ticks per turn is not finite and above 0, or the counter width is none of 16, 24, 32 and 64.
     InvalidKinematics,
     // A finite angle above 4 in size.
     AngleRange,
+    // A count that a counter of the drive's width does not show.
+    TickRange,
 }

@@ -1,6 +1,6 @@
 // What the wheel encoders report.
 ghost use mathlib.Core.Path.{_≡_};
-ghost use Rattle.drive.specs.Readings.{finiteMeasurement, finiteReading, ratesAt, sameKind, ticksAt};
+ghost use Rattle.drive.specs.Readings.{finiteMeasurement, finiteReading, inRange, ratesAt, sameKind, ticksAt};
 use crate::Reading;
 use crate::WheelMeasurement;
 
@@ -12,6 +12,19 @@ impl Reading {
             Reading::Ticks(_, _) => true,
             Reading::AngularVelocity(left, right) => number::is_finite(left)
                 & number::is_finite(right),
+        }
+    }
+}
+
+impl Reading {
+    // Whether counters of so many bits can show it. Rates are of no counter.
+    pub fn is_in_range(self, width: u64) -> bool
+        ensures { λ r. ⌜ r ≡ inRange width self ⌝ }
+    {
+        match self {
+            Reading::Ticks(left, right) => number::tick_in_range(width, left)
+                & number::tick_in_range(width, right),
+            Reading::AngularVelocity(_, _) => true,
         }
     }
 }

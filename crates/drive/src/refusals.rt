@@ -19,6 +19,7 @@ impl Refusal {
             Refusal::InvalidNoise => 6,
             Refusal::InvalidKinematics => 7,
             Refusal::AngleRange => 8,
+            Refusal::TickRange => 16,
         }
     }
 }

@@ -1,4 +1,4 @@
-// Numbers, on which nearly every other crate stands: tests of an f64, whole numbers as f64, the difference of two tick counts, the halving count.
+// Numbers, on which nearly every other crate stands: tests of an f64, whole numbers as f64, counts of an encoder and their difference, the halving count.
 // Each answers for every bit pattern, and its contract equates the answer with a definition of specs/.
 pub mod float;
 pub mod halving;
@@ -13,6 +13,7 @@ pub use float::size;
 pub use halving::Halved;
 pub use halving::halvings;
 pub use tick::tick_difference;
+pub use tick::tick_in_range;
 pub use whole::whole_to_f64;
 
 // The f64s nearest to π and 2π.

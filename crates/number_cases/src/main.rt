@@ -2,7 +2,7 @@
 // tools/number_cases.py makes the input and the expected output. A record is its kind and:
 //
 //    1  a whole number, as a signed word: it as an f64
-//    2  two tick counts: their difference
+//    2  a counter width and two tick counts: their difference; 6 a counter width and a tick count: whether it is in range (1, or 0)
 //    3  a number: its root
 //    4  an angle: its sine and its cosine
 //    5  a ratio: its halvings, and the number of parts
@@ -34,14 +34,21 @@ fn ask(kind: u64) {
         3 => ask_root(),
         4 => ask_turn(kind),
         5 => ask_halvings(),
+        6 => ask_range(),
         _ => cases::print_word(cases::read_word()),
     }
 }
 
 fn ask_difference() {
+    let width = cases::read_word();
     let from = read_tick();
-    let difference = number::tick_difference(from, read_tick());
+    let difference = number::tick_difference(width, from, read_tick());
     cases::print_word(number::tick::bits_of(difference));
+}
+
+fn ask_range() {
+    let width = cases::read_word();
+    cases::print_word(number::tick_in_range(width, read_tick()) as u64);
 }
 
 fn ask_root() {

@@ -9,7 +9,7 @@ use drive::WheelNoise;
 // How many bytes each has.
 pub const READING: usize = 26;
 
-pub const PARAMETERS: usize = 40;
+pub const PARAMETERS: usize = 48;
 
 // What kind of reading it is: 0 of ticks, 1 of rates.
 pub fn kind_of(s: &[u8]) -> u64
@@ -60,6 +60,7 @@ pub fn drive_of(s: &[u8]) -> DifferentialDrive
         wheel_radius: words::f64_at(s, 0),
         track_width: words::f64_at(s, 8),
         ticks_per_revolution: words::f64_at(s, 16),
+        counter_width: words::u64_at(s, 40),
     }
 }
 

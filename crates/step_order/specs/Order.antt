@@ -1,5 +1,5 @@
--- 01, The wheel step: the order in which a reading is refused, from its first line to its last. It stands in three parts, since after the first a reading with none
--- before it is the baseline, and after the second the motion is composed.
+-- 01, The wheel step: the order in which a reading is refused, from its first line to its last, with 02's refusals at their places. It stands in three parts, since
+-- after the first a reading with none before it is the baseline, and after the second the motion is composed.
 use mathlib.Core.Bool.{not, _||_}
 use mathlib.Core.List.{[], _∷_}
 use lib.Ieee.{Float}
@@ -12,7 +12,7 @@ use Rattle.drive.specs.declared.WheelNoise.{WheelNoise}
 use Rattle.drive.specs.declared.WheelMeasurement.{WheelMeasurement}
 use Rattle.drive.specs.Drive.{validDrive}
 use Rattle.drive.specs.Noise.{validNoise}
-use Rattle.drive.specs.Readings.{finiteMeasurement, sameKind}
+use Rattle.drive.specs.Readings.{finiteMeasurement, inRange, sameKind}
 use Rattle.drive.specs.Refusals.{saidRefusal}
 use Rattle.interval.specs.declared.Accumulated.{Accumulated}
 use Rattle.interval.specs.declared.Interval.{Interval}
@@ -25,13 +25,15 @@ abbrev pub saidOutcome : Outcome → Said (Unit {0})
 saidOutcome O.Accepted = gives tt
 saidOutcome (O.Refused r) = saidRefusal r
 
--- "Order: 1; 2 for time or rates; then .." and before that 01, Refusal numbers: "unfit noise or drive is refused 6, then 7, before 1"
+-- "Order: 1; 2 for time or rates; then .." and before that 01, Refusal numbers: "unfit noise or drive is refused 6, then 7, before 1". 02, W-201: "a tick out of range is
+-- 16, after 2 for the reading and also for a baseline."
 unfoldable pub readingFits : DifferentialDrive → WheelNoise → WheelMeasurement → Said (Unit {0})
 readingFits d n m =
     refusal 6 when not (validNoise n) else
     refusal 7 when not (validDrive d) else
     refusal 1 when not (m .valid) else
     refusal 2 when not (finiteMeasurement m) else
+    refusal 16 when not (inRange (d .«counter_width») (m .reading)) else
     gives tt
 
 -- "After that 3, 4, 5, 8, 2 ..": "If wz·h is finite and above 4 in size: refused 8; if not finite: 2", and 01, Refusal numbers: "A stored heading above 4 in size

@@ -1,4 +1,4 @@
-// What of a reading is refused before anything is composed, in 01's order. From kornia's wheel.rs.
+// What of a reading is refused before anything is composed, in 01's order, with 02's refusals at their places. From kornia's wheel.rs.
 ghost use mathlib.Core.Path.{_≡_};
 ghost use Rattle.step_order.specs.Order.{intervalFits, readingFits, saidOutcome};
 use drive::DifferentialDrive;
@@ -27,6 +27,10 @@ pub fn reading_fits(drive: DifferentialDrive, noise: WheelNoise, m: WheelMeasure
     }
     if !m.is_finite() {
         return Outcome::Refused(Refusal::NonFinite);
+    }
+    let reading = m.reading;
+    if !reading.is_in_range(drive.counter_width) {
+        return Outcome::Refused(Refusal::TickRange);
     }
     Outcome::Accepted
 }

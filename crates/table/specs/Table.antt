@@ -26,9 +26,9 @@ whole n = nearestTo n 1
 abbrev pub over : ℕ → Float
 over n = nearestTo 1 n
 
--- a radius of 0.5 and a track of 0.25; the ticks per turn are not used
+-- a radius of 0.5 and a track of 0.25; the ticks per turn and the counter width are not used
 abbrev pub drive : DifferentialDrive
-drive = record { «wheel_radius» = half; «track_width» = over 4; «ticks_per_revolution» = one }
+drive = record { «wheel_radius» = half; «track_width» = over 4; «ticks_per_revolution» = one; «counter_width» = 64 }
 
 pub record Table : Type 0 where
   -- "2^53+1 converts to 2^53; 2^63−1 to 2^63": number::whole_to_f64
@@ -36,8 +36,8 @@ pub record Table : Type 0 where
   pub greatest : wholeToFloat (pos (2 ^ 63 - 1)) ≡ whole (2 ^ 63)
   -- "root of 2^−1074 is 2^−537": root::sqrt
   pub least-root : sqrtOf (over (2 ^ 1074)) ≡ gives (over (2 ^ 537))
-  -- "the tick wrap above": "From 2^63−1 to −2^63 it is 1": number::tick_difference
-  pub tick-wrap : tickDifference (pos (2 ^ 63 - 1)) (negsuc (2 ^ 63 - 1)) ≡ pos 1
+  -- "the tick wrap above": "From 2^63−1 to −2^63 it is 1", which is that of counters of 64 bits: number::tick_difference
+  pub tick-wrap : tickDifference 64 (pos (2 ^ 63 - 1)) (negsuc (2 ^ 63 - 1)) ≡ pos 1
   -- "ratio 1, 1024, next above it give 0, 10, 11": number::halvings
   pub ratio-one : halvingCount one ≡ 0
   pub ratio-thousand : halvingCount (whole 1024) ≡ 10

@@ -16,6 +16,7 @@ fn main() {
     print_root(words::of_bits(1));
     write(b"from 2^63-1 to -2^63 it is ");
     print_f64(number::whole_to_f64(number::tick_difference(
+        64,
         9223372036854775807,
         number::tick::of_bits(0x8000_0000_0000_0000),
     )));
@@ -47,6 +48,7 @@ fn print_twist() {
         wheel_radius: 0.5,
         track_width: 0.25,
         ticks_per_revolution: 1.0,
+        counter_width: 64,
     };
     match drive.twist(1.0, 2.0) {
         Twisted::Twist(v) => {

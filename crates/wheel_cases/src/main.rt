@@ -3,7 +3,8 @@
 // oracle/run --sample's. A record is its kind and:
 //
 //    1  a group of cases begins: its number
-//    2  begin a walk: a drive (radius, track, ticks per turn), the noise of a wheel's rate, the lateral noise; 3 a drive, with the noise that is set beforehand
+//    2  begin a walk: a drive (radius, track, ticks per turn, counter width), the noise of a wheel's rate, the lateral noise; 3 a drive, with the noise that is set
+//       beforehand
 //    4  integrate ticks: whether it is valid (1), the time, left and right; 5 rates
 //    6  restart
 //    7  hand in a state, fit or not: a drive and a noise as in 2, the motion's three numbers and the nine of its covariance, dt, and the last reading, as in 4
@@ -162,10 +163,12 @@ fn read_drive() -> DifferentialDrive {
     let wheel_radius = cases::read_f64();
     let track_width = cases::read_f64();
     let ticks_per_revolution = cases::read_f64();
+    let counter_width = cases::read_word();
     DifferentialDrive {
         wheel_radius,
         track_width,
         ticks_per_revolution,
+        counter_width,
     }
 }
 
@@ -262,6 +265,7 @@ fn print_settings(settings: Settings) {
     let d = settings.drive;
     let n = settings.noise;
     cases::print_numbers(&[d.wheel_radius, d.track_width, d.ticks_per_revolution]);
+    cases::print_word(d.counter_width);
     cases::print_numbers(&[n.wheel_rate, n.lateral_velocity]);
 }
 

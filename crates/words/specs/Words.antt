@@ -17,7 +17,7 @@ wordAt n s i = littleEndian n (drop i s)
 
 -- eight of them as a signed number, and as the f64 whose bits they are: a NaN's pattern is NaN
 abbrev pub signedAt : List ℕ → ℕ → ℤ
-signedAt s i = signed (wordAt 8 s i)
+signedAt s i = signed 64 (wordAt 8 s i)
 
 abbrev pub floatAt : List ℕ → ℕ → Float
 floatAt s i = ofBits binary64 (wordAt 8 s i)

@@ -2,6 +2,7 @@
 use crate::ours::{Ours, Records, bits};
 use crate::random::Random;
 use crate::report::{Group, larger};
+use crate::wheel::WIDTH;
 
 const CASES: u64 = 20_000;
 
@@ -24,7 +25,7 @@ fn drawn(random: &mut Random) -> [(Vec<u64>, Vec<u64>); 4] {
     let (sine, cosine) = a.sin_cos();
     [
         (vec![n as u64], vec![bits(n as f64)]),
-        (vec![from as u64, to as u64], vec![to.wrapping_sub(from) as u64]),
+        (vec![WIDTH, from as u64, to as u64], vec![to.wrapping_sub(from) as u64]),
         (vec![bits(x)], vec![0, bits(x.sqrt())]),
         (vec![bits(a)], vec![0, bits(sine), bits(cosine)]),
     ]

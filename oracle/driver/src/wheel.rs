@@ -10,6 +10,9 @@ use kornia_sensors::wheel::{
 };
 use std::f64::consts::PI;
 
+/// The Rust's counters turn over at 64 bits.
+pub const WIDTH: u64 = 64;
+
 type Integrator = WheelPreintegration<DifferentialDrive>;
 
 pub const UNIT: DifferentialDrive = DifferentialDrive { wheel_radius: 1.0, track_width: 1.0, ticks_per_revolution: 1.0 };
@@ -275,8 +278,12 @@ fn not_finite(random: &mut Random, m: WheelMeasurement) -> WheelMeasurement {
 
 // ---- calls
 
+fn drive_words(drive: &DifferentialDrive, width: u64) -> Vec<u64> {
+    [words(&[drive.wheel_radius, drive.track_width, drive.ticks_per_revolution]), vec![width]].concat()
+}
+
 fn settings_words(drive: &DifferentialDrive, noise: &WheelNoise) -> Vec<u64> {
-    words(&[drive.wheel_radius, drive.track_width, drive.ticks_per_revolution, noise.wheel_rate, noise.lateral_velocity])
+    [drive_words(drive, WIDTH), words(&[noise.wheel_rate, noise.lateral_velocity])].concat()
 }
 
 pub fn motion_words(m: &PlanarMotion) -> Vec<u64> {
@@ -307,6 +314,11 @@ pub fn begin(drive: &DifferentialDrive, noise: &WheelNoise) -> Call {
     let settings = settings_words(drive, noise);
     let state = [vec![0], settings.clone(), motion_words(rust.motion()), words(&[rust.dt()]), last_words(rust.last().copied())].concat();
     Call { kind: 2, words: settings, answer: vec![Part::Kept(state)] }
+}
+
+/// Begins a walk of the default noise with counters of another width, which the Rust does not know.
+pub fn begin_counting(drive: &DifferentialDrive, width: u64) -> Call {
+    Call::unanswered(3, drive_words(drive, width))
 }
 
 /// Hands in a state of this drive and motion, fit or not.
@@ -539,7 +551,7 @@ pub fn asked(ours: &Ours, random: &mut Random) -> Group {
     let mut group = Group::new("twists, rates from ticks and Jacobians, asked on their own; the default noise", "");
     let cases: Vec<_> = (0..10_000).map(|_| Asked::draw(random).calls()).collect();
     let WheelNoise { wheel_rate, lateral_velocity } = WheelNoise::default();
-    let drive = settings_words(&UNIT, &WheelNoise::default())[..3].to_vec();
+    let drive = drive_words(&UNIT, WIDTH);
     let default = Part::Same("default noise", words(&[wheel_rate, lateral_velocity]));
     let begun = Call { kind: 3, words: drive.clone(), answer: vec![Part::Kept(vec![0]), Part::Kept(drive), default] };
     group.ask(ours, "wheel_cases", &cases);

@@ -40,13 +40,26 @@ returns-4 c =
     let c1 = c2 .before .before in
     rw (sym (c1 .before .is-valid .ensures), c1 .if1 .left, sym (c2 .before .is-valid2 .ensures), c2 .if2 .left, c3 .if3 .left, sym (c .before .is-finite .ensures), c .if4 .taken)
 
+is-in-range-requires : tie.Need-is-in-range-requires
+is-in-range-requires c κs = search needs
+
 returns-5 : tie.Need-returns-5
 unfolding readingFits
 returns-5 c =
-    let c3 = c .before .before in
+    let c4 = c .before .before in
+    let c3 = c4 .before .before in
     let c2 = c3 .before .before in
     let c1 = c2 .before .before in
-    rw (sym (c1 .before .is-valid .ensures), c1 .if1 .left, sym (c2 .before .is-valid2 .ensures), c2 .if2 .left, c3 .if3 .left, sym (c .before .is-finite .ensures), c .if4 .left)
+    rw (sym (c1 .before .is-valid .ensures), c1 .if1 .left, sym (c2 .before .is-valid2 .ensures), c2 .if2 .left, c3 .if3 .left, sym (c4 .before .is-finite .ensures), c4 .if4 .left, sym (c .before .is-in-range .ensures), c .if5 .taken)
+
+returns-6 : tie.Need-returns-6
+unfolding readingFits
+returns-6 c =
+    let c4 = c .before .before in
+    let c3 = c4 .before .before in
+    let c2 = c3 .before .before in
+    let c1 = c2 .before .before in
+    rw (sym (c1 .before .is-valid .ensures), c1 .if1 .left, sym (c2 .before .is-valid2 .ensures), c2 .if2 .left, c3 .if3 .left, sym (c4 .before .is-finite .ensures), c4 .if4 .left, sym (c .before .is-in-range .ensures), c .if5 .left)
 
 pub reading-fits-spec : {M : Type 1} → statement M
 reading-fits-spec =
@@ -59,4 +72,6 @@ reading-fits-spec =
     returns-3
     is-finite-requires
     returns-4
-    returns-5)
+    is-in-range-requires
+    returns-5
+    returns-6)

@@ -13,7 +13,7 @@ of-bits-requires : tie.Need-of-bits-requires
 of-bits-requires c κs = search needs
 
 returns : tie.Need-returns
-returns c = toZ-ofZ (sfits-of (c .of-bits .ok)) ∙ c .of-bits .ensures ∙ ap signed (c .before .u64-at .ensures)
+returns c = toZ-ofZ (sfits-of (c .of-bits .ok)) ∙ c .of-bits .ensures ∙ ap (signed 64) (c .before .u64-at .ensures)
 
 pub i64-at-spec : {M : Type 1} → statement M
 i64-at-spec = tie.close (tie.spec u64-at-requires of-bits-requires returns)

@@ -2,7 +2,7 @@
 use super::{Row, listed, number, numbers, unless_refused};
 use crate::call::Call;
 use crate::ours::{Line, bits, words};
-use crate::wheel::{UNIT, begin, composition, hand_in, least_halvings, read};
+use crate::wheel::{UNIT, begin, begin_counting, composition, hand_in, least_halvings, read};
 use kornia_sensors::wheel::{DifferentialDrive, PlanarMotion, WheelKinematics, WheelMeasurement, WheelNoise, WheelPreintegration};
 use std::f64::consts::{FRAC_PI_2, PI};
 
@@ -17,6 +17,11 @@ pub fn rows() -> Vec<Row> {
         heading("composing a number that is not finite", f64::NAN, 0.0),
         step("step angle above 4", [0.0, 4194305.0], &[0.0, 1.0]),
         step("total time that overflows", [0.0, 0.0], &[-1.7e308, 0.0, 1.7e308]),
+        counted("a counter of 16 bits that starts again at 0", 16, [65535, 65535], [0, 0]),
+        counted("a counter of 16 bits that goes back below 0", 16, [0, 0], [65535, 65535]),
+        counted("half the range of a counter of 16 bits", 16, [0, 0], [32768, 32768]),
+        counted("a count that a counter of 16 bits does not show", 16, [0, 0], [65536, 0]),
+        counted("a counter width that there is none of", 17, [0, 0], [1, 1]),
     ];
     rows.extend(asked_rows());
     rows.extend(halving_rows());
@@ -32,7 +37,7 @@ fn heading(place: &'static str, a: f64, b: f64) -> Row {
 }
 
 /// How many words of a state's line stand before its motion: the settings.
-const SETTINGS: usize = 5;
+const SETTINGS: usize = 6;
 
 const QUIET: WheelNoise = WheelNoise { wheel_rate: 0.0, lateral_velocity: 0.0 };
 
@@ -50,6 +55,23 @@ fn step(place: &'static str, rates: [f64; 2], times: &[f64]) -> Row {
     let [x, y, heading] = rust.motion().delta;
     let rust = format!("{said}, dt {}, motion {}, {}, {}", number(rust.dt()), number(x), number(y), number(heading));
     let read = |line: &mut Line| unless_refused(line, |line| format!("accepted, motion {}", numbers(&line.behind(SETTINGS).take(3))));
+    Row { place, input, rust, calls, read }
+}
+
+/// Two readings of counters that are as wide for ours as is said, on wheels one count of which is a metre of floor.
+fn counted(place: &'static str, width: u64, from: [i64; 2], to: [i64; 2]) -> Row {
+    let drive = DifferentialDrive { ticks_per_revolution: 2.0 * PI, ..UNIT };
+    let mut calls = vec![begin_counting(&drive, width)];
+    let mut rust = WheelPreintegration::new(drive, WheelNoise::default()).expect("fit");
+    let mut said = String::new();
+    for (t, ticks) in [(0.0, from), (1.0, to)] {
+        let m = WheelMeasurement::ticks(t, ticks);
+        calls.push(read(&m));
+        said = rust.integrate(&m).map_or_else(|e| format!("{e:?}"), |()| "accepted".into());
+    }
+    let input = format!("radius 1, track 1, 2·PI ticks per turn, counters of {width} bits, ticks {from:?} and then {to:?}");
+    let rust = format!("{said}, {} m ahead", number(rust.motion().delta[0]));
+    let read = |line: &mut Line| unless_refused(line, |line| format!("accepted, {} m ahead", numbers(&line.behind(SETTINGS).take(1))));
     Row { place, input, rust, calls, read }
 }
 

@@ -12,6 +12,9 @@ is-finite-positive-requires-2 c κs = search needs
 is-finite-positive-requires-3 : tie.Need-is-finite-positive-requires-3
 is-finite-positive-requires-3 c κs = search needs
 
+is-width-requires : tie.Need-is-width-requires
+is-width-requires c κs = search needs
+
 returns : tie.Need-returns
 unfolding validDrive
 returns c = cc
@@ -23,4 +26,5 @@ is-valid-spec =
     is-finite-positive-requires
     is-finite-positive-requires-2
     is-finite-positive-requires-3
+    is-width-requires
     returns)

@@ -2,8 +2,7 @@ use mir.ValLaws.{toZ-ofZ}
 use mathlib.Core.Path.{_≡_, _∙_}
 use mir.Syntax.{w64}
 use mir.Val.{toZ, ofZ}
-use Rattle.number.specs.Ticks.{tickDifference}
-use Rattle.drive.specs.Drive.{ratesFromTicks}
+use Rattle.drive.specs.Drive.{counted, ratesFromTicks}
 use borrow.Author.Needs.{needs}
 use Rattle.drive.proofs.formula.rates_between.Statement.{statement}
 use Rattle.drive.proofs.formula.rates_between.Tie as tie
@@ -43,19 +42,20 @@ returns c =
     let to = c .before .before .before .before .to .given in
     let start = c .before .before .before .before .before .before .before in
     let from = start .from .given in
+    let drive = start .before .before .args .drive in
     let dl = c .before .before .tick-difference in
     let dr = c .before .tick-difference2 in
     let fl : toZ w64 (ofZ w64 (from .0 .0)) ≡ from .0 .0 = search needs in
     let fr : toZ w64 (ofZ w64 (from .0 .1 .0)) ≡ from .0 .1 .0 = search needs in
     let tl : toZ w64 (ofZ w64 (to .0 .0)) ≡ to .0 .0 = search needs in
     let tr : toZ w64 (ofZ w64 (to .0 .1 .0)) ≡ to .0 .1 .0 = search needs in
-    let left : toZ w64 (ofZ w64 (dl .result)) ≡ tickDifference (from .0 .0) (to .0 .0) =
-    toZ-ofZ w64 (dl .result) (record { sfits = dl .ok }) ∙ dl .ensures ∙ (λ i. tickDifference (fl i) (tl i))
+    let left : toZ w64 (ofZ w64 (dl .result)) ≡ counted drive (from .0 .0) (to .0 .0) =
+    toZ-ofZ w64 (dl .result) (record { sfits = dl .ok }) ∙ dl .ensures ∙ (λ i. counted drive (fl i) (tl i))
     in
-    let right : toZ w64 (ofZ w64 (dr .result)) ≡ tickDifference (from .0 .1 .0) (to .0 .1 .0) =
-    toZ-ofZ w64 (dr .result) (record { sfits = dr .ok }) ∙ dr .ensures ∙ (λ i. tickDifference (fr i) (tr i))
+    let right : toZ w64 (ofZ w64 (dr .result)) ≡ counted drive (from .0 .1 .0) (to .0 .1 .0) =
+    toZ-ofZ w64 (dr .result) (record { sfits = dr .ok }) ∙ dr .ensures ∙ (λ i. counted drive (fr i) (tr i))
     in
-    simp (from .1, to .1) (c .rates-from-ticks .ensures ∙ (λ i. ratesFromTicks (start .before .before .args .drive) (left i) (right i) (start .before .before .args .dt)))
+    simp (from .1, to .1) (c .rates-from-ticks .ensures ∙ (λ i. ratesFromTicks drive (left i) (right i) (start .before .before .args .dt)))
 
 returns-2 : tie.Need-returns-2
 returns-2 c = simp (c .before .before .before .from .given .1, c .enum-told .given .1)

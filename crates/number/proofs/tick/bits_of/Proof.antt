@@ -41,10 +41,10 @@ sub-result-2 : tie.Need-sub-result-2
 sub-result-2 c = subst (λ (z : ℤ). natAbs z ≤ 2 ^ 64 - 1) (sym (flipped c)) (omega (arith, fits (c .before) .sfits))
 
 returns : tie.Need-returns
-returns c = positive-residue (a-read (c .before)) (fits (c .before)) (c .if1 .taken) ∙ ap residue (same (c .before))
+returns c = positive-residue (a-read (c .before)) (fits (c .before)) (c .if1 .taken) ∙ ap (residue 64) (same (c .before))
 
 returns-2 : tie.Need-returns-2
-returns-2 c = ap (λ (z : ℤ). 2 ^ 64 - 1 - natAbs z) (flipped c) ∙ negative-residue (a-read (c .before)) (fits (c .before)) (c .if1 .left) ∙ ap residue (same (c .before))
+returns-2 c = ap (λ (z : ℤ). 2 ^ 64 - 1 - natAbs z) (flipped c) ∙ negative-residue (a-read (c .before)) (fits (c .before)) (c .if1 .left) ∙ ap (residue 64) (same (c .before))
 
 pub bits-of-spec : {M : Type 1} → statement M
 bits-of-spec = tie.close (tie.spec cast-result sub-result cast-result-2 sub-result-2 returns returns-2)
