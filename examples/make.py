@@ -102,8 +102,8 @@ def curve():
     return log_of([RADIUS, TRACK, PER_TURN, 0.002, 0.001, WIDTH], readings)
 
 
-# ---- turnover.log: newer encoders, 4,096 counts to a turn of a wheel and counters of 16 bits, which start again at 0 every 10 metres. Five metres ahead, a
-# quarter turn to the left, two metres back, ten readings a second
+# ---- turnover.log: newer encoders, 4,096 counts to a turn of a wheel and counters of 16 bits, which start again at 0 every 10 metres. Five
+# metres ahead, a quarter turn to the left, two metres back, ten readings a second
 
 NEWER_PER_TURN, NEWER_WIDTH = 4096.0, 16
 THERE_AND_BACK = [(1, 0.0, 0.0), (11, 5.0, 0.0), (4, 0.0, math.pi / 2), (6, -2.0, 0.0), (1, 0.0, 0.0)]

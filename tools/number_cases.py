@@ -3,8 +3,8 @@
 
 No expected value comes from the code under test. Whole numbers, roots and the f64s of references are rounded here from exact fractions,
 ties to even; roots come from whole-number square roots; sines and cosines are Taylor sums of 90 decimal digits; tick differences, the
-ranges of counters and halving counts are the words of 01 and 02 in whole numbers and fractions. Of `math` only isqrt and floor are used, which are exact. The evaluation
-of docs/SINCOS.md is that of tools/wheel_cases.py.
+ranges of counters and halving counts are the words of 01 and 02 in whole numbers and fractions. Of `math` only isqrt and floor are used,
+which are exact. The evaluation of docs/SINCOS.md is that of tools/wheel_cases.py.
 
 The list is fixed: its random part is a linear congruential generator that starts from the same number. Run it from anywhere, with no
 arguments.
@@ -102,8 +102,8 @@ def wholes():
     return [([1, n], [nearest(n)]) for n in ns if -(2**63) <= n < 2**63]
 
 
-# ---- 2: a counter width and tick counts, from and to, with the difference. 01: "taken modulo 2^64 as a signed number. From 2^63-1 to -2^63 it is 1." 02,
-# W-201: "the signed one modulo 2^width, from −2^(width−1) upward"; a width that is none reads as 64
+# ---- 2: a counter width and tick counts, from and to, with the difference. 01: "taken modulo 2^64 as a signed number. From 2^63-1 to -2^63
+# it is 1." 02, W-201: "the signed one modulo 2^width, from −2^(width−1) upward"; a width that is none reads as 64
 
 OTHER_WIDTHS = [0, 65, 66, 128, 2**32, 2**32 + 16, 2**63 + 24, 2**64 - 1]
 

@@ -1,5 +1,5 @@
-"""The bytes of a log, for the tools that a person uses (tools/log, tools/show): 01, "The log", with the counter width of 02's W-201. tools/replay_cases.py
-states the same layout for itself, since the cases that the gate runs come from there.
+"""The bytes of a log, for the tools that a person uses (tools/log, tools/show): 01, "The log", with the counter width of 02's W-201.
+tools/replay_cases.py states the same layout for itself, since the cases that the gate runs come from there.
 
 Every number of a log is kept as a word, the whole number that its 64 bits are, so that no bit goes by way of a float.
 """
@@ -19,8 +19,8 @@ class Field(NamedTuple):
     meaning: str
 
 
-# "parameters (count 1; radius, track, ticks per turn, wheel noise, lateral noise as f64)"; W-201: "the width as a u64 at its end (48 bytes)". The order is the
-# log's.
+# "parameters (count 1; radius, track, ticks per turn, wheel noise, lateral noise as f64)"; W-201: "the width as a u64 at its end (48
+# bytes)". The order is the log's.
 PARAMETERS = [
     Field("radius", "f64", "m: radius of the wheels"),
     Field("track", "f64", "m: from one wheel's point of contact to the other's"),
@@ -30,8 +30,8 @@ PARAMETERS = [
     Field("counter_width", "u64", "bits of the encoders' counters, 16, 24, 32 or 64: below 64 they start again at 0"),
 ]
 
-# Older layouts: the parameters that each had, in order, and what those that it lacked stood for. No log is sound in two layouts: they differ by some eights of
-# bytes, and a reading has 26.
+# Older layouts: the parameters that each had, in order, and what those that it lacked stood for. No log is sound in two layouts: they are
+# 8 bytes apart, and a reading has 26.
 OLDER = [(["radius", "track", "ticks_per_turn", "wheel_noise", "lateral_noise"], {"counter_width": 64})]
 
 # "kind 0 ticks or 1 rates": the form of left and right by the kind's number

@@ -27,9 +27,7 @@ impl Reading {
             Reading::AngularVelocity(_, _) => true,
         }
     }
-}
 
-impl Reading {
     // Ticks both, or rates both.
     pub fn is_same_kind(self, other: Reading) -> bool
         ensures { λ r. ⌜ r ≡ sameKind self other ⌝ }

@@ -51,7 +51,8 @@ fn power_of_two(k: u64) -> u64
     1 << k
 }
 
-// How far a counter of so many bits went on its way from one reading to the next, though it may have turned over: less than half its range.
+// How far a counter of so many bits went on its way from one reading to the next, though it may have turned over. It is taken to have gone the shorter way round,
+// and back where both are as long.
 pub fn tick_difference(width: u64, from: i64, to: i64) -> i64
     ensures { λ r. ⌜ r ≡ tickDifference width from to ⌝ }
 {

@@ -31,3 +31,14 @@ width-64 from to = refl
 pub wraps : tickDifference 64 (pos (2 ^ 63 - 1)) (negsuc (2 ^ 63 - 1)) ≡ pos 1
 unfolding tickDifference
 wraps = refl
+
+-- counters of 16 bits: over their end, back over it, and half their range from either side
+pub record Turns : Type 0 where
+  pub ahead : tickDifference 16 (pos 65535) (pos 0) ≡ pos 1
+  pub back : tickDifference 16 (pos 0) (pos 65535) ≡ negsuc 0
+  pub half : tickDifference 16 (pos 0) (pos 32768) ≡ negsuc 32767
+  pub half-back : tickDifference 16 (pos 32768) (pos 0) ≡ negsuc 32767
+
+pub turns : Turns
+unfolding tickDifference
+turns = record { ahead = refl; back = refl; half = refl; half-back = refl }
