@@ -33,7 +33,7 @@ pub record IsDifference (w : ℕ) (from to d : ℤ) : Type 0 where
   pub congruent : residue w d ≡ residue w (to -ℤ from)
   pub in-range : IsSigned w d
 
--- a width is from 1 to 64, and any other reads as 64: no answer rests on that, since such a drive is refused 7
+-- a width is from 1 to 64, and any other reads as 64: no answer of a drive rests on that, since such a one is refused 7
 abbrev pub widthOf : ℕ → ℕ
 widthOf width = width when leb 1 width && leb width 64 else 64
 

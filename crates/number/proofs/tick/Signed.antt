@@ -6,9 +6,9 @@ use native.Mathlib.Nat.{mod-lt, mod-eq-of-lt, mod-mod-of-dvd, dvd-mul-left, div-
 use native.Mathlib.Omega.{arith}
 use mathlib.Core.Bool.{Bool, true, false, cond, not, false≢true}
 use lib.Dec.{T, ltb, ltb→lt, nltb→le}
-use lib.Pow.{pow-pos, pow-mono, pow-add, ones-sub-lt}
+use lib.Pow.{pow-pos, pow-add, ones-sub-lt}
 use borrow.Author.Tests.{lt-ltb, le-ltb, leb-false}
-use lib.IntN.{ℤ, pos, negsuc, natAbs, subℕ, _-ℤ_, +ℤ-comm, -ℤ-one}
+use lib.IntN.{ℤ, pos, negsuc, natAbs, _-ℤ_, +ℤ-comm, -ℤ-one}
 use lib.Signed.{mag, nonNeg, leZ}
 use mir.Syntax.{w64}
 use mir.Val.{Fits, SFits}

@@ -1,5 +1,5 @@
 -- `tick::power_of_two` meets its contract: no bit is shifted out. Assumes nothing.
-use Prim.Native.Nat.{_*_, _^_}
+use Prim.Native.Nat.{_^_}
 use mathlib.Core.Path.{_∙_}
 use native.Mathlib.Nat.{one-mul}
 use native.Mathlib.Omega.{arith}

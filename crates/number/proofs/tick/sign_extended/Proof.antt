@@ -1,6 +1,6 @@
 -- `tick::sign_extended` meets its contract: at 64 bits nothing is cut off, and below that the highest bit of the lowest ones is the sign. Assumes nothing.
 use mathlib.Core.Path.{ap}
-use Prim.Native.Nat.{_*_, _-_, _<_}
+use Prim.Native.Nat.{_<_}
 use native.Mathlib.Nat.{mod-lt}
 use native.Mathlib.Omega.{arith}
 use borrow.Author.Needs.{needs}

@@ -1,6 +1,5 @@
 -- `tick::tick_in_range` meets its contract: the bits of a number below 0 are too large for any counter below 64. Assumes nothing.
-use mathlib.Core.Path.{sym, ap, _∙_}
-use Prim.Native.Nat.{ℕ}
+use mathlib.Core.Path.{ap, _∙_}
 use native.Mathlib.Omega.{arith}
 use lib.Dec.{ltb}
 use mir.Syntax.{w64}
