@@ -111,16 +111,24 @@ fn wheel_steps(name: &str, hertz: f64) {
 
 // ---- the largest log. The Rust has no replay: what stands beside ours reads the same bytes, runs the Rust's integrator and writes the same lines.
 
-fn log(n: usize) -> Vec<u8> {
+fn log(n: usize, width: u32) -> Vec<u8> {
     let mut log = 1u32.to_le_bytes().to_vec();
     for x in [0.1f64, 0.5, 65536.0, 0.05, 0.01] {
         log.extend(x.to_le_bytes());
     }
-    // the Rust's counters have 64 bits
-    log.extend(64u64.to_le_bytes());
+    log.extend((width as u64).to_le_bytes());
     log.extend((n as u32).to_le_bytes());
-    log.extend(walk(n, 10.0).bytes);
+    for r in walk(n, 10.0).bytes.chunks_exact(26) {
+        log.extend(&r[..10]);
+        log.extend(turned_over(i64_at(r, 10), width).to_le_bytes());
+        log.extend(turned_over(i64_at(r, 18), width).to_le_bytes());
+    }
     log
+}
+
+/// What a counter of this width shows.
+fn turned_over(count: i64, width: u32) -> i64 {
+    if width == 64 { count } else { count.rem_euclid(1 << width) }
 }
 
 fn f64_at(s: &[u8], i: usize) -> f64 {
@@ -164,20 +172,21 @@ fn rust_replay(log: &[u8]) -> usize {
     text.len()
 }
 
-fn replay() {
-    let log = log(2518);
-    let ours = || unsafe { bench_replay(black_box(log.as_ptr()), log.len()) };
-    assert_eq!(ours(), rust_replay(&log));
+/// The Rust's counters have 64 bits: it gets the walk as such.
+fn replay(name: &str, width: u32) {
+    let (turning, plain) = (log(2518, width), log(2518, 64));
+    let ours = || unsafe { bench_replay(black_box(turning.as_ptr()), turning.len()) };
+    assert_eq!(ours(), rust_replay(&plain));
     let times = best(
         1,
         || {
             black_box(ours());
         },
         || {
-            black_box(rust_replay(black_box(&log)));
+            black_box(rust_replay(black_box(&plain)));
         },
     );
-    line("the replay of a log of 2,518 readings", times);
+    line(name, times);
 }
 
 // ---- inertial samples
@@ -311,7 +320,8 @@ fn main() {
     println!("|---|---|---|---|");
     wheel_steps("a wheel step at 100 Hz", 100.0);
     wheel_steps("a wheel step at 10 Hz", 10.0);
-    replay();
+    replay("the replay of a log of 2,518 readings", 64);
+    replay("the same, counters of 16 bits", 16);
     inertial_step();
     orderings();
     information();

@@ -2,7 +2,6 @@
 use drive::DifferentialDrive;
 use drive::Twisted;
 use libc::STDOUT_FILENO;
-use number::Halved;
 use root::Root;
 use wheel_odom::Information;
 use wheel_odom::WheelOdomMeasurement;
