@@ -28,7 +28,7 @@ signed w n = pos n when ltb n (2 ^ (w - 1)) else negsuc (2 ^ w - suc n)
 
 -- ---- the difference: "the signed one modulo 2^width, from −2^(width−1) upward"
 
--- what the difference is, and what it is not
+-- d is the difference from one count to the other
 pub record IsDifference (w : ℕ) (from to d : ℤ) : Type 0 where
   pub congruent : residue w d ≡ residue w (to -ℤ from)
   pub in-range : IsSigned w d
@@ -37,7 +37,7 @@ pub record IsDifference (w : ℕ) (from to d : ℤ) : Type 0 where
 abbrev pub widthOf : ℕ → ℕ
 widthOf width = width when leb 1 width && leb width 64 else 64
 
--- the same as a function that computes
+-- the difference as a function that computes; that it is one, and no other number is: Statements.antt
 unfoldable pub tickDifference : (width : ℕ) → ℤ → ℤ → ℤ
 tickDifference width from to = let w = widthOf width in signed w (residue w (to -ℤ from))
 
