@@ -1,5 +1,6 @@
 #!/usr/bin/env python3
-"""Makes the four logs of this folder and, beside each, what its replay prints: hall.log, creep.log, rates.log, turnover.log, and their .out files.
+"""Makes the six logs of this folder and, beside each, what its replay prints: hall.log, creep.log, rates.log, turnover.log, worn.log,
+worn_as_new.log, and their .out files.
 
 None of it was measured. Each walk is worked out from a plan, with small disturbances from a linear congruential generator that starts from
 the same number, and in basic arithmetic alone, so that the files are the same wherever this is run. What the replay prints comes from
@@ -69,7 +70,7 @@ def hall():
     readings[1700:1702] = [readings[1701], readings[1700]]
     readings[1200:1200] = [readings[1200]]
     readings[700] = ticks((51342000 + 70000) / 1000, 0, 0, 0)
-    return log_of([RADIUS, TRACK, PER_TURN, 0.002, 0.001, WIDTH], readings)
+    return log_of([RADIUS, RADIUS, TRACK, PER_TURN, 0.002, 0.001, WIDTH], readings)
 
 
 # ---- creep.log: eleven millimetres in an hour, a reading every five seconds
@@ -83,7 +84,7 @@ def creep():
         rolled = 0.011 * (part / along[-1]) * PER_METRE
         # the two counts do not change at the same moment
         readings.append(ticks(5.0 * i, 80211 + math.floor(rolled + 0.3), 79960 + math.floor(rolled + 0.8)))
-    return log_of([RADIUS, TRACK, PER_TURN, 0.0001, 0.00001, WIDTH], readings)
+    return log_of([RADIUS, RADIUS, TRACK, PER_TURN, 0.0001, 0.00001, WIDTH], readings)
 
 
 # ---- rates.log: a quarter of a circle of 16 metres radius to the left, twenty readings a second
@@ -99,7 +100,7 @@ def curve():
         # the rate counters give thousandths of a radian per second, and are out by up to five of them
         given = [round(1000 * (v / RADIUS) + random_between(-5.0, 5.0)) / 1000 if now else 0.0 for v in (left, right)]
         readings.append(rates(i / 20, *given))
-    return log_of([RADIUS, TRACK, PER_TURN, 0.002, 0.001, WIDTH], readings)
+    return log_of([RADIUS, RADIUS, TRACK, PER_TURN, 0.002, 0.001, WIDTH], readings)
 
 
 # ---- turnover.log: newer encoders, 4,096 counts to a turn of a wheel and counters of 16 bits, which start again at 0 every 10 metres. Five
@@ -118,11 +119,29 @@ def turnover():
         readings.append(ticks(i / 10, left, right))
     # an encoder that is asked too soon, and answers with 32 bits that are all set
     readings[120] = ticks(12.0, 2**32 - 1, 2**32 - 1)
-    return log_of([RADIUS, TRACK, NEWER_PER_TURN, 0.002, 0.001, NEWER_WIDTH], readings)
+    return log_of([RADIUS, RADIUS, TRACK, NEWER_PER_TURN, 0.002, 0.001, NEWER_WIDTH], readings)
+
+
+# ---- worn.log: twelve metres straight ahead along a wall on a left tyre that is worn by 0.3 mm, ten readings a second; and worn_as_new.log,
+# the same readings with the new tyre's radius for both wheels
+
+WORN_RADIUS = 0.0997
+ALONG = [(1, 0.0, 0.0), (24, 12.0, 0.0), (1, 0.0, 0.0)]
+
+
+def worn(left_radius):
+    readings = []
+    for i in range(10 * sum(seconds for seconds, _, _ in ALONG) + 1):
+        paths = wheel_paths(*planned(ALONG, i / 10))
+        # the smaller wheel turns further on the same floor
+        left, right = (math.floor(path / (math.tau * radius) * PER_TURN) for path, radius in zip(paths, (WORN_RADIUS, RADIUS)))
+        readings.append(ticks(i / 10, 5000 + left, 7000 + right))
+    return log_of([left_radius, RADIUS, TRACK, PER_TURN, 0.0005, 0.0005, WIDTH], readings)
 
 
 def main():
-    for name, log in (("hall", hall()), ("creep", creep()), ("rates", curve()), ("turnover", turnover())):
+    logs = [("hall", hall()), ("creep", creep()), ("rates", curve()), ("turnover", turnover())]
+    for name, log in logs + [("worn", worn(WORN_RADIUS)), ("worn_as_new", worn(RADIUS))]:
         assert len(log) <= 65536
         (here / f"{name}.log").write_bytes(log)
         (here / f"{name}.out").write_bytes(lines_of(log))

@@ -17,18 +17,19 @@ RUN = Path(__file__).resolve().parent / "run"
 def fault(log):
     if len(log) > 65536:
         return "more than 65536 bytes; a log has at most 65536"
-    if len(log) >= 48 and log[:4] == b"\1\0\0\0" and len(log) == 48 + 26 * struct.unpack_from("<I", log, 44)[0]:
-        return "its parameters have no counter width, as in older logs; 'tools/log renew' carries one over"
-    if len(log) < 56:
-        return f"{len(log)} bytes; a log has 56 before its readings"
-    (parameters,), (readings,) = struct.unpack_from("<I", log, 0), struct.unpack_from("<I", log, 52)
+    for at, lacking in ((56, "one radius"), (48, "one radius and no counter width")):
+        if len(log) >= at and log[:4] == b"\1\0\0\0" and len(log) == at + 26 * struct.unpack_from("<I", log, at - 4)[0]:
+            return f"its parameters have {lacking}, as in older logs; 'tools/log renew' carries one over"
+    if len(log) < 64:
+        return f"{len(log)} bytes; a log has 64 before its readings"
+    (parameters,), (readings,) = struct.unpack_from("<I", log, 0), struct.unpack_from("<I", log, 60)
     if parameters != 1:
         return f"its first 4 bytes count {parameters} parameter records; a log has 1"
-    size = 56 + 26 * readings
+    size = 64 + 26 * readings
     if len(log) != size:
         return f"{len(log)} bytes; with {readings} readings, as it counts, a log has {size}"
     for i in range(readings):
-        kind, flag = log[56 + 26 * i : 58 + 26 * i]
+        kind, flag = log[64 + 26 * i : 66 + 26 * i]
         if kind > 1 or flag > 1:
             return f"reading {i}: its kind is {kind} and its flag is {flag}; a kind is 0 (ticks) or 1 (rates), a flag 0 (invalid) or 1 (valid)"
 

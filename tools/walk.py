@@ -1,5 +1,5 @@
-"""The bytes of a log, for the tools that a person uses (tools/log, tools/show): 01, "The log", with the counter width of 02's W-201.
-tools/replay_cases.py states the same layout for itself, since the cases that the gate runs come from there.
+"""The bytes of a log, for the tools that a person uses (tools/log, tools/show): 01, "The log", with the counter width of 02's W-201
+and the two radii of W-205. tools/replay_cases.py states the same layout for itself, since the cases that the gate runs come from there.
 
 Every number of a log is kept as a word, the whole number that its 64 bits are, so that no bit goes by way of a float.
 """
@@ -19,10 +19,11 @@ class Field(NamedTuple):
     meaning: str
 
 
-# "parameters (count 1; radius, track, ticks per turn, wheel noise, lateral noise as f64)"; W-201: "the width as a u64 at its end (48
-# bytes)". The order is the log's.
+# "parameters (count 1; radius, track, ticks per turn, wheel noise, lateral noise as f64)"; W-201: "the width as a u64 at its end";
+# W-205: "left radius, right radius, then the rest (56 bytes)". The order is the log's.
 PARAMETERS = [
-    Field("radius", "f64", "m: radius of the wheels"),
+    Field("left_radius", "f64", "m: radius of the left wheel"),
+    Field("right_radius", "f64", "m: radius of the right wheel"),
     Field("track", "f64", "m: from one wheel's point of contact to the other's"),
     Field("ticks_per_turn", "f64", "encoder counts to one turn of a wheel"),
     Field("wheel_noise", "f64", "rad/s/√Hz: noise of each wheel's rate"),
@@ -30,9 +31,13 @@ PARAMETERS = [
     Field("counter_width", "u64", "bits of the encoders' counters, 16, 24, 32 or 64: below 64 they start again at 0"),
 ]
 
-# Older layouts: the parameters that each had, in order, and what those that it lacked stood for. No log is sound in two layouts: they are
-# 8 bytes apart, and a reading has 26.
-OLDER = [(["radius", "track", "ticks_per_turn", "wheel_noise", "lateral_noise"], {"counter_width": 64})]
+# Older layouts: the parameters that each had, in order, and what each of today's that it lacked stood for, one of its own by name or a word.
+# No log is sound in two layouts: they are 8 or 16 bytes apart, and a reading has 26.
+ONE_RADIUS, NO_WIDTH = {"left_radius": "radius", "right_radius": "radius"}, {"counter_width": 64}
+OLDER = [
+    (["radius", "track", "ticks_per_turn", "wheel_noise", "lateral_noise", "counter_width"], ONE_RADIUS),
+    (["radius", "track", "ticks_per_turn", "wheel_noise", "lateral_noise"], ONE_RADIUS | NO_WIDTH),
+]
 
 # "kind 0 ticks or 1 rates": the form of left and right by the kind's number
 KINDS = [Field("ticks", "i64", "cumulative encoder counts"), Field("rates", "f64", "rad/s")]
@@ -101,10 +106,12 @@ def older(log):
         end = PARAMETERS_AT + 8 * len(names)
         if len(log) < end:
             continue
-        given = {**dict(zip(names, struct.unpack_from(f"<{len(names)}Q", log, PARAMETERS_AT))), **lacking}
+        own = dict(zip(names, struct.unpack_from(f"<{len(names)}Q", log, PARAMETERS_AT)))
+        lacked = {name: own.get(source, source) for name, source in lacking.items()}
+        given = own | lacked
         now = log[:PARAMETERS_AT] + struct.pack(f"<{len(PARAMETERS)}Q", *(given[field.name] for field in PARAMETERS)) + log[end:]
         if not broken(now):
-            return now, lacking
+            return now, lacked
     return None
 
 

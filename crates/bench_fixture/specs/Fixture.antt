@@ -15,7 +15,13 @@ use Rattle.wheel_odom.specs.Measurement.{withDefaults}
 -- a fresh integrator: wheels of 0.1 m, a track of 0.5 m, 65,536 ticks to a turn, counters of 64 bits, the default noise
 abbrev pub cart : WheelPreintegration
 cart = fresh (settings
-    (record { «wheel_radius» = ofBits binary64 0x3fb999999999999a; «track_width» = half; «ticks_per_revolution» = ofBits binary64 0x40f0000000000000; «counter_width» = 64 })
+    (record {
+      «left_radius» = ofBits binary64 0x3fb999999999999a;
+      «right_radius» = ofBits binary64 0x3fb999999999999a;
+      «track_width» = half;
+      «ticks_per_revolution» = ofBits binary64 0x40f0000000000000;
+      «counter_width» = 64;
+    })
     (record { «wheel_rate» = c0·05; «lateral_velocity» = c0·01 }))
 
 -- a measurement with the default sigmas, at a heading, of a covariance given by its upper half

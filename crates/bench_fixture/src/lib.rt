@@ -44,7 +44,8 @@ pub extern "C" fn bench_wheel_run(events: &[u8]) -> f64
     ensures { λ r. ⌜ r ≡ ranOf cart (eventsIn (now (events .entry))) .state .accumulated .dt ⌝ }
 {
     let drive = DifferentialDrive {
-        wheel_radius: 0.1,
+        left_radius: 0.1,
+        right_radius: 0.1,
         track_width: 0.5,
         ticks_per_revolution: 65536.0,
         counter_width: 64,

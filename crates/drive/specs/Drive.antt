@@ -1,4 +1,5 @@
--- 01, The wheel step: "Twist", "Rate from ticks", "Rate from rates", and "asked for on their own"; 02, W-201: the counter width.
+-- 01, The wheel step: "Rate from ticks", "Rate from rates", and "asked for on their own"; 02, W-201: the counter width; W-205: two radii, and with
+-- them the twist.
 use Prim.Native.Nat.{ℕ}
 use mathlib.Core.Bool.{Bool, not, _&&_, _||_}
 use mathlib.Core.List.{[], _∷_}
@@ -23,26 +24,27 @@ use Rattle.drive.specs.declared.Reading.the-variants.{Ticks, AngularVelo
 abbrev pub isWidth : ℕ → Bool
 isWidth w = eqb w 16 || eqb w 24 || eqb w 32 || eqb w 64
 
--- 01, Refusal numbers, 7: "radius, track or ticks per turn not finite and above 0"; 02, W-201: "another width is 7"
+-- 01, Refusal numbers, 7: "radius, track or ticks per turn not finite and above 0"; 02, W-205: "either radius unfit is 7"; W-201: "another width is 7"
 unfoldable pub validDrive : DifferentialDrive → Bool
 validDrive d =
-    finitePositive (d .«wheel_radius»)
+    finitePositive (d .«left_radius»)
+    && finitePositive (d .«right_radius»)
     && finitePositive (d .«track_width»)
     && finitePositive (d .«ticks_per_revolution»)
     && isWidth (d .«counter_width»)
 
 -- "no state": every number +0
 abbrev pub blankDrive : DifferentialDrive
-blankDrive = record { «wheel_radius» = +0; «track_width» = +0; «ticks_per_revolution» = +0; «counter_width» = 0 }
+blankDrive = record { «left_radius» = +0; «right_radius» = +0; «track_width» = +0; «ticks_per_revolution» = +0; «counter_width» = 0 }
 
 -- ---- the twist
 
--- "vx = 0.5·r·(left+right), vy = 0, wz = r·(right−left)/track, evaluated left to right"
+-- 02, W-205: "vx = 0.5·(rl·left + rr·right), wz = (rr·right − rl·left)/track"; 01: "vy = 0"
 unfoldable pub twistOf : DifferentialDrive → WheelRates → BodyTwist
 twistOf d w = record {
-  vx = half ⊗ d .«wheel_radius» ⊗ (w .left ⊕ w .right);
+  vx = half ⊗ (d .«left_radius» ⊗ w .left ⊕ d .«right_radius» ⊗ w .right);
   vy = +0;
-  wz = d .«wheel_radius» ⊗ (w .right ⊖ w .left) ⊘ d .«track_width»;
+  wz = (d .«right_radius» ⊗ w .right ⊖ d .«left_radius» ⊗ w .left) ⊘ d .«track_width»;
 }
 
 unfoldable pub finiteTwist : BodyTwist → Bool
@@ -59,12 +61,12 @@ twistAsked d left right =
     refusal 2 when not (finiteTwist (twistOf d (rates left right))) else
     gives (twistOf d (rates left right))
 
--- ---- its Jacobian: "columns (r/2, 0, −r/track), (r/2, 0, r/track)"
+-- ---- its Jacobian, 02, W-205: "the noise columns are (rl/2, 0, −rl/track) and (rr/2, 0, rr/track)"
 
 unfoldable pub columnsOf : DifferentialDrive → TwistColumns
 columnsOf d = record {
-  left = record { vx = d .«wheel_radius» ⊘ c2; vy = +0; wz = − (d .«wheel_radius» ⊘ d .«track_width») };
-  right = record { vx = d .«wheel_radius» ⊘ c2; vy = +0; wz = d .«wheel_radius» ⊘ d .«track_width» };
+  left = record { vx = d .«left_radius» ⊘ c2; vy = +0; wz = − (d .«left_radius» ⊘ d .«track_width») };
+  right = record { vx = d .«right_radius» ⊘ c2; vy = +0; wz = d .«right_radius» ⊘ d .«track_width» };
 }
 
 -- its refusals are not in 01: as for the twist, which has two inputs more (docs/DECISIONS.md)

@@ -1,4 +1,5 @@
--- 01, The wheel step: "Rate noise: J·Jᵀ times wheel_rate², plus diag(0, lateral², 0); J has columns (r/2, 0, −r/track), (r/2, 0, r/track), 0. A square is x·x."
+-- 01, The wheel step: "Rate noise: J·Jᵀ times wheel_rate², plus diag(0, lateral², 0); J has columns .., 0. A square is x·x."
+-- 02, W-205: "the noise columns are (rl/2, 0, −rl/track) and (rr/2, 0, rr/track)".
 use mathlib.Core.Bool.{Bool, _&&_}
 use mathlib.Core.List.{List}
 use lib.Ieee.{Float}

@@ -15,10 +15,12 @@ use number::TAU;
 pub fn twist_of(drive: DifferentialDrive, w: WheelRates) -> BodyTwist
     ensures { λ r. ⌜ r ≡ twistOf drive w ⌝ }
 {
+    let left = drive.left_radius * w.left;
+    let right = drive.right_radius * w.right;
     BodyTwist {
-        vx: 0.5 * drive.wheel_radius * (w.left + w.right),
+        vx: 0.5 * (left + right),
         vy: 0.0,
-        wz: drive.wheel_radius * (w.right - w.left) / drive.track_width,
+        wz: (right - left) / drive.track_width,
     }
 }
 
@@ -26,18 +28,16 @@ pub fn twist_of(drive: DifferentialDrive, w: WheelRates) -> BodyTwist
 pub(crate) fn columns(drive: DifferentialDrive) -> TwistColumns
     ensures { λ r. ⌜ r ≡ columnsOf drive ⌝ }
 {
-    let half_r = drive.wheel_radius / 2.0;
-    let r_b = drive.wheel_radius / drive.track_width;
     TwistColumns {
         left: BodyTwist {
-            vx: half_r,
+            vx: drive.left_radius / 2.0,
             vy: 0.0,
-            wz: -r_b,
+            wz: -(drive.left_radius / drive.track_width),
         },
         right: BodyTwist {
-            vx: half_r,
+            vx: drive.right_radius / 2.0,
             vy: 0.0,
-            wz: r_b,
+            wz: drive.right_radius / drive.track_width,
         },
     }
 }

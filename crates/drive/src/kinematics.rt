@@ -22,7 +22,8 @@ impl BodyTwist {
 impl DifferentialDrive {
     // Stands where there is no drive.
     pub const BLANK: DifferentialDrive = DifferentialDrive {
-        wheel_radius: 0.0,
+        left_radius: 0.0,
+        right_radius: 0.0,
         track_width: 0.0,
         ticks_per_revolution: 0.0,
         counter_width: 0,
@@ -32,7 +33,8 @@ impl DifferentialDrive {
     pub fn is_valid(self) -> bool
         ensures { λ r. ⌜ r ≡ validDrive self ⌝ }
     {
-        number::is_finite_positive(self.wheel_radius)
+        number::is_finite_positive(self.left_radius)
+            & number::is_finite_positive(self.right_radius)
             & number::is_finite_positive(self.track_width)
             & number::is_finite_positive(self.ticks_per_revolution)
             & is_width(self.counter_width)

@@ -54,10 +54,11 @@ pub enum Rated {
     Refused(Refusal),
 }
 
-// Wheel radius and distance between the wheels' contact points in metres, encoder counts per wheel turn, and the bits of the encoders' counters:
-// below 64 they start again at 0 where they are full.
+// The wheels' radii and the distance between their contact points in metres, encoder counts per wheel turn, and the bits of the encoders' counters:
+// below 64 they start again at 0 where they are full. Each wheel has its own radius, since tyres wear unevenly.
 pub struct DifferentialDrive {
-    pub wheel_radius: f64,
+    pub left_radius: f64,
+    pub right_radius: f64,
     pub track_width: f64,
     pub ticks_per_revolution: f64,
     pub counter_width: u64,
@@ -83,7 +84,7 @@ pub enum Refusal {
     MixedReadings,
     // A noise number is not finite or below 0.
     InvalidNoise,
-    // Radius, track or ticks per turn is not finite and above 0, or the counter width is none of 16, 24, 32 and 64.
+    // A radius, track or ticks per turn is not finite and above 0, or the counter width is none of 16, 24, 32 and 64.
     InvalidKinematics,
     // A finite angle above 4 in size.
     AngleRange,

@@ -9,7 +9,7 @@ use drive::WheelNoise;
 // How many bytes each has.
 pub const READING: usize = 26;
 
-pub const PARAMETERS: usize = 48;
+pub const PARAMETERS: usize = 56;
 
 // What kind of reading it is: 0 of ticks, 1 of rates.
 pub fn kind_of(s: &[u8]) -> u64
@@ -57,10 +57,11 @@ pub fn drive_of(s: &[u8]) -> DifferentialDrive
     ensures { λ r. ⌜ r ≡ driveOf (now (s .entry)) ⌝ }
 {
     DifferentialDrive {
-        wheel_radius: words::f64_at(s, 0),
-        track_width: words::f64_at(s, 8),
-        ticks_per_revolution: words::f64_at(s, 16),
-        counter_width: words::u64_at(s, 40),
+        left_radius: words::f64_at(s, 0),
+        right_radius: words::f64_at(s, 8),
+        track_width: words::f64_at(s, 16),
+        ticks_per_revolution: words::f64_at(s, 24),
+        counter_width: words::u64_at(s, 48),
     }
 }
 
@@ -69,7 +70,7 @@ pub fn noise_of(s: &[u8]) -> WheelNoise
     ensures { λ r. ⌜ r ≡ noiseOf (now (s .entry)) ⌝ }
 {
     WheelNoise {
-        wheel_rate: words::f64_at(s, 24),
-        lateral_velocity: words::f64_at(s, 32),
+        wheel_rate: words::f64_at(s, 32),
+        lateral_velocity: words::f64_at(s, 40),
     }
 }

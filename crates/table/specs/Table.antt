@@ -26,9 +26,9 @@ whole n = nearestTo n 1
 abbrev pub over : ℕ → Float
 over n = nearestTo 1 n
 
--- a radius of 0.5 and a track of 0.25; the ticks per turn and the counter width are not used
+-- radii of 0.5 (02, W-205, gives each wheel its own) and a track of 0.25; the ticks per turn and the counter width are not used
 abbrev pub drive : DifferentialDrive
-drive = record { «wheel_radius» = half; «track_width» = over 4; «ticks_per_revolution» = one; «counter_width» = 64 }
+drive = record { «left_radius» = half; «right_radius» = half; «track_width» = over 4; «ticks_per_revolution» = one; «counter_width» = 64 }
 
 pub record Table : Type 0 where
   -- "2^53+1 converts to 2^53; 2^63−1 to 2^63": number::whole_to_f64

@@ -44,7 +44,8 @@ fn print_halvings(ratio: f64) {
 
 fn print_twist() {
     let drive = DifferentialDrive {
-        wheel_radius: 0.5,
+        left_radius: 0.5,
+        right_radius: 0.5,
         track_width: 0.25,
         ticks_per_revolution: 1.0,
         counter_width: 64,

@@ -3,8 +3,8 @@
 // oracle/run --sample's. A record is its kind and:
 //
 //    1  a group of cases begins: its number
-//    2  begin a walk: a drive (radius, track, ticks per turn, counter width), the noise of a wheel's rate, the lateral noise; 3 a drive, with the noise that is set
-//       beforehand
+//    2  begin a walk: a drive (left and right radius, track, ticks per turn, counter width), the noise of a wheel's rate, the lateral noise; 3 a drive, with the
+//       noise that is set beforehand
 //    4  integrate ticks: whether it is valid (1), the time, left and right; 5 rates
 //    6  restart
 //    7  hand in a state, fit or not: a drive and a noise as in 2, the motion's three numbers and the nine of its covariance, dt, and the last reading, as in 4
@@ -16,7 +16,7 @@
 //
 // A line of 2 to 6 has what became of the call (0, or the refusal's number and the times that it carries) and the state as in 7; one of 7 has the state; one of 8
 // to 11 has what became of the call and the answer, and beside a refused composition the motion that is blank by contract. A kind 100 higher is the same,
-// with motions held against the Rust's: place, heading and covariance each stand behind a tolerance.
+// with motions and twists held against the Rust's: place, heading and covariance, and the forward speed and the yaw rate, each stand behind a tolerance.
 use drive::BodyTwist;
 use drive::DifferentialDrive;
 use drive::Jacobian;
@@ -96,7 +96,7 @@ fn restarted(before: WheelPreintegration) -> WheelPreintegration {
 
 fn ask(kind: u64, drive: DifferentialDrive, stored: PlanarMotion) {
     match kind % 100 {
-        8 => ask_twist(drive),
+        8 => ask_twist(kind, drive),
         9 => ask_rates(drive),
         10 => ask_jacobian(drive),
         11 => ask_composed(kind, stored),
@@ -104,13 +104,15 @@ fn ask(kind: u64, drive: DifferentialDrive, stored: PlanarMotion) {
     }
 }
 
-fn ask_twist(drive: DifferentialDrive) {
+fn ask_twist(kind: u64, drive: DifferentialDrive) {
     let left = cases::read_f64();
     let right = cases::read_f64();
     match drive.twist(left, right) {
         Twisted::Twist(v) => {
             cases::print_word(0);
-            print_twist(v);
+            cases::print_near(kind, &[v.vx]);
+            cases::print_numbers(&[v.vy]);
+            cases::print_near(kind, &[v.wz]);
         }
         Twisted::Refused(why) => print_refusal(why),
     }
@@ -160,12 +162,14 @@ fn number_of(outcome: planar::Outcome) -> u64 {
 // ---- what a record holds behind its kind
 
 fn read_drive() -> DifferentialDrive {
-    let wheel_radius = cases::read_f64();
+    let left_radius = cases::read_f64();
+    let right_radius = cases::read_f64();
     let track_width = cases::read_f64();
     let ticks_per_revolution = cases::read_f64();
     let counter_width = cases::read_word();
     DifferentialDrive {
-        wheel_radius,
+        left_radius,
+        right_radius,
         track_width,
         ticks_per_revolution,
         counter_width,
@@ -264,7 +268,14 @@ fn print_state(kind: u64, state: WheelPreintegration) {
 fn print_settings(settings: Settings) {
     let d = settings.drive;
     let n = settings.noise;
-    cases::print_numbers(&[d.wheel_radius, d.track_width, d.ticks_per_revolution]);
+    cases::print_numbers(
+        &[
+            d.left_radius,
+            d.right_radius,
+            d.track_width,
+            d.ticks_per_revolution,
+        ],
+    );
     cases::print_word(d.counter_width);
     cases::print_numbers(&[n.wheel_rate, n.lateral_velocity]);
 }

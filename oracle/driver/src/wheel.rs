@@ -41,9 +41,13 @@ pub struct Run {
     drive: DifferentialDrive,
     noise: WheelNoise,
     seen: Vec<Seen>,
-    /// Readings drawn and given to neither, by their ratio.
-    near_power: u64,
+    /// Readings drawn and given to neither, and why.
+    left_out: Vec<&'static str>,
 }
+
+const NEAR_POWER: &str = "readings whose ratio is within 1e-12 above a power of two, given to neither";
+const NEARLY_ALIKE: &str = "whose wheels roll alike but for less than a millionth, so that the yaw rate is rounding, given to neither";
+const OTHER_COUNT: &str = "readings that ours halves once more or once less, given to neither";
 
 // ---- the Rust
 
@@ -59,8 +63,20 @@ fn refusal(e: WheelError) -> Vec<u64> {
     }
 }
 
-/// A reading's time step and twist, where the Rust would come to them.
-fn interval(drive: &DifferentialDrive, last: &WheelMeasurement, m: &WheelMeasurement) -> Option<(f64, BodyTwist)> {
+/// 02's twist, W-205, of a drive with this radius on both sides: products before sums. The Rust's has the sum first.
+fn twist_by_products(drive: &DifferentialDrive, [left, right]: [f64; 2]) -> BodyTwist {
+    let [left, right] = [drive.wheel_radius * left, drive.wheel_radius * right];
+    BodyTwist { vx: 0.5 * (left + right), vy: 0.0, wz: (right - left) / drive.track_width }
+}
+
+/// Whether the two products nearly cancel: then what is left of them is the rounding of each.
+fn are_nearly_alike(drive: &DifferentialDrive, rates: [f64; 2]) -> bool {
+    let [left, right] = rates.map(|w| drive.wheel_radius * w);
+    left != right && (right - left).abs() < 1e-6 * larger(left.abs(), right.abs())
+}
+
+/// A reading's time step and rates, where the Rust would come to them.
+fn interval(drive: &DifferentialDrive, last: &WheelMeasurement, m: &WheelMeasurement) -> Option<(f64, [f64; 2])> {
     let dt = m.timestamp - last.timestamp;
     if !(m.valid && dt > 0.0) {
         return None;
@@ -72,7 +88,7 @@ fn interval(drive: &DifferentialDrive, last: &WheelMeasurement, m: &WheelMeasure
         (WheelReading::AngularVelocity(a), WheelReading::AngularVelocity(b)) => [0.5 * (a[0] + b[0]), 0.5 * (a[1] + b[1])],
         _ => return None,
     };
-    Some((dt, drive.twist(rates)))
+    Some((dt, rates))
 }
 
 /// The ratio that the halvings are counted by.
@@ -97,24 +113,36 @@ fn is_near_power(ratio: f64) -> bool {
 impl Run {
     fn new(drive: DifferentialDrive, noise: WheelNoise) -> (Self, Integrator) {
         let rust = Integrator::new(drive, noise).expect("fit");
-        (Self { drive, noise, seen: vec![], near_power: 0 }, rust)
+        (Self { drive, noise, seen: vec![], left_out: vec![] }, rust)
     }
 
     fn saw(&mut self, event: Event, said: Vec<u64>, rust: &Integrator, way: (f64, f64)) {
         self.seen.push(Seen { way, event, said, motion: *rust.motion(), dt: rust.dt(), last: rust.last().copied() });
     }
 
+    /// Why a reading is outside what is compared, if it is.
+    fn reason_to_leave_out(&self, dt: f64, rates: [f64; 2]) -> Option<&'static str> {
+        let [theirs, ours] = [self.drive.twist(rates), twist_by_products(&self.drive, rates)].map(|twist| ratio(dt, &twist));
+        if is_near_power(theirs) {
+            return Some(NEAR_POWER);
+        }
+        if are_nearly_alike(&self.drive, rates) {
+            return Some(NEARLY_ALIKE);
+        }
+        (least_halvings(theirs) != least_halvings(ours)).then_some(OTHER_COUNT)
+    }
+
     /// Gives the reading to the Rust, unless it is outside the domain.
     fn read(&mut self, m: WheelMeasurement, rust: &mut Integrator) {
         let between = rust.last().and_then(|last| interval(&self.drive, last, &m));
         let mut way = (0.0, 0.0);
-        if let Some((dt, twist)) = between {
-            let ratio = ratio(dt, &twist);
-            if is_near_power(ratio) {
-                self.near_power += 1;
+        if let Some((dt, rates)) = between {
+            if let Some(why) = self.reason_to_leave_out(dt, rates) {
+                self.left_out.push(why);
                 return;
             }
-            let angle = twist.wz * (dt / f64::from(1u32 << least_halvings(ratio)));
+            let twist = twist_by_products(&self.drive, rates);
+            let angle = twist.wz * (dt / f64::from(1u32 << least_halvings(ratio(dt, &twist))));
             if angle.is_finite() && angle.abs() > 4.0 {
                 self.saw(Event::Refused8(m), vec![8], rust, way);
                 return;
@@ -278,8 +306,9 @@ fn not_finite(random: &mut Random, m: WheelMeasurement) -> WheelMeasurement {
 
 // ---- calls
 
+/// A drive of ours with the Rust's radius on both sides.
 fn drive_words(drive: &DifferentialDrive, width: u64) -> Vec<u64> {
-    [words(&[drive.wheel_radius, drive.track_width, drive.ticks_per_revolution]), vec![width]].concat()
+    [words(&[drive.wheel_radius, drive.wheel_radius, drive.track_width, drive.ticks_per_revolution]), vec![width]].concat()
 }
 
 fn settings_words(drive: &DifferentialDrive, noise: &WheelNoise) -> Vec<u64> {
@@ -378,8 +407,8 @@ impl Run {
                 group.leave_out("readings refused by the added 8, not given to the Rust");
             }
         }
-        for _ in 0..self.near_power {
-            group.leave_out("readings whose ratio is within 1e-12 above a power of two, given to neither");
+        for why in &self.left_out {
+            group.leave_out(why);
         }
     }
 }
@@ -529,9 +558,19 @@ impl Asked {
         }
     }
 
+    pub fn is_left_out(&self) -> bool {
+        are_nearly_alike(&self.drive, self.rates)
+    }
+
     /// The drive, and what it gives.
     pub fn calls(&self) -> [Call; 4] {
-        let twist = self.drive.twist(self.rates);
+        let BodyTwist { vx, vy, wz } = self.drive.twist(self.rates);
+        let twist = vec![
+            Part::Kept(vec![0]),
+            Part::Near("forward speed", vec![vx], vx.abs()),
+            Part::Kept(words(&[vy])),
+            Part::Near("yaw rate", vec![wz], wz.abs()),
+        ];
         let jacobian = self.drive.twist_jacobian(self.rates).map(|column| column.to_array()).concat();
         let ticks = vec![self.ticks[0] as u64, self.ticks[1] as u64, bits(self.dt)];
         let ask = |kind, asked, what, given: &[f64]| {
@@ -540,7 +579,7 @@ impl Asked {
         };
         [
             begin(&self.drive, &WheelNoise::default()),
-            ask(8, words(&self.rates), "twist", &[twist.vx, twist.vy, twist.wz]),
+            Call { kind: 8, words: words(&self.rates), answer: twist },
             ask(9, ticks, "rates from ticks", &self.drive.wheel_rates_from_ticks(self.ticks, self.dt)),
             ask(10, vec![], "Jacobian", &jacobian),
         ]
@@ -549,7 +588,9 @@ impl Asked {
 
 pub fn asked(ours: &Ours, random: &mut Random) -> Group {
     let mut group = Group::new("twists, rates from ticks and Jacobians, asked on their own; the default noise", "");
-    let cases: Vec<_> = (0..10_000).map(|_| Asked::draw(random).calls()).collect();
+    let (left_out, compared): (Vec<_>, Vec<_>) = (0..10_000).map(|_| Asked::draw(random)).partition(Asked::is_left_out);
+    left_out.iter().for_each(|_| group.leave_out(NEARLY_ALIKE));
+    let cases: Vec<_> = compared.iter().map(Asked::calls).collect();
     let WheelNoise { wheel_rate, lateral_velocity } = WheelNoise::default();
     let drive = drive_words(&UNIT, WIDTH);
     let default = Part::Same("default noise", words(&[wheel_rate, lateral_velocity]));

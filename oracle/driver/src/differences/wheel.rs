@@ -37,7 +37,7 @@ fn heading(place: &'static str, a: f64, b: f64) -> Row {
 }
 
 /// How many words of a state's line stand before its motion: the settings.
-const SETTINGS: usize = 6;
+const SETTINGS: usize = 7;
 
 const QUIET: WheelNoise = WheelNoise { wheel_rate: 0.0, lateral_velocity: 0.0 };
 
@@ -76,8 +76,8 @@ fn counted(place: &'static str, width: u64, from: [i64; 2], to: [i64; 2]) -> Row
 }
 
 fn asked_rows() -> Vec<Row> {
-    let no_radius = DifferentialDrive { wheel_radius: 0.0, ..UNIT };
-    let large = DifferentialDrive { wheel_radius: 1e308, ..UNIT };
+    let of_radius = |wheel_radius| DifferentialDrive { wheel_radius, ..UNIT };
+    let (no_radius, large) = (of_radius(0.0), of_radius(1e308));
     let steep = DifferentialDrive { track_width: 1e-308, wheel_radius: 1e10, ..UNIT };
     let twist = |place, input: &str, drive: DifferentialDrive, rates: [f64; 2]| {
         let t = drive.twist(rates);
@@ -94,6 +94,11 @@ fn asked_rows() -> Vec<Row> {
     vec![
         twist("twist of an unfit drive", "radius 0, rates 1, 1", no_radius, [1.0, 1.0]),
         twist("twist of a rate that is not finite", "radius 1, track 1, rates NaN, 1", UNIT, [f64::NAN, 1.0]),
+        twist("yaw rate of equal radii", "radii 0.1, track 1, rates 1, 3", of_radius(0.1), [1.0, 3.0]),
+        twist("both numbers of a twist of equal radii", "radii 0.7, track 1, rates 2, 3", of_radius(0.7), [2.0, 3.0]),
+        twist("forward speed of the smallest equal radii", "radii 5e-324, track 1, rates 1, 1", of_radius(5e-324), [1.0, 1.0]),
+        twist("yaw rate of rates that are nearly the same", "radii 0.1, track 1, rates 3, 3.0000000000000004", of_radius(0.1), [3.0, 3.0000000000000004]),
+        twist("twist of equal radii whose products overflow together", "radii 1e308, track 1, rates 1, 1", large, [1.0, 1.0]),
         twist("twist that overflows", "radius 1e308, track 1, rates 10, 10", large, [10.0, 10.0]),
         rates("rates over no time", "ticks 1, 0, dt 0", [1, 0], 0.0),
         rates("rates over a time below 0", "ticks 1, 0, dt −1", [1, 0], -1.0),

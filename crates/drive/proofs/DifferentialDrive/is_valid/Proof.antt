@@ -12,6 +12,9 @@ is-finite-positive-requires-2 c κs = search needs
 is-finite-positive-requires-3 : tie.Need-is-finite-positive-requires-3
 is-finite-positive-requires-3 c κs = search needs
 
+is-finite-positive-requires-4 : tie.Need-is-finite-positive-requires-4
+is-finite-positive-requires-4 c κs = search needs
+
 is-width-requires : tie.Need-is-width-requires
 is-width-requires c κs = search needs
 
@@ -26,5 +29,6 @@ is-valid-spec =
     is-finite-positive-requires
     is-finite-positive-requires-2
     is-finite-positive-requires-3
+    is-finite-positive-requires-4
     is-width-requires
     returns)
