@@ -113,7 +113,7 @@ fn wheel_steps(name: &str, hertz: f64) {
 
 fn log(n: usize, width: u32) -> Vec<u8> {
     let mut log = 1u32.to_le_bytes().to_vec();
-    for x in [0.1f64, 0.5, 65536.0, 0.05, 0.01] {
+    for x in [0.1f64, 0.1, 0.5, 65536.0, 0.05, 0.01] {
         log.extend(x.to_le_bytes());
     }
     log.extend((width as u64).to_le_bytes());
@@ -140,12 +140,13 @@ fn i64_at(s: &[u8], i: usize) -> i64 {
 }
 
 fn rust_replay(log: &[u8]) -> usize {
-    let drive = DifferentialDrive { wheel_radius: f64_at(log, 4), track_width: f64_at(log, 12), ticks_per_revolution: f64_at(log, 20) };
-    let noise = WheelNoise { wheel_rate: f64_at(log, 28), lateral_velocity: f64_at(log, 36) };
+    // both radii are the same here, and the Rust has one
+    let drive = DifferentialDrive { wheel_radius: f64_at(log, 4), track_width: f64_at(log, 20), ticks_per_revolution: f64_at(log, 28) };
+    let noise = WheelNoise { wheel_rate: f64_at(log, 36), lateral_velocity: f64_at(log, 44) };
     let mut s = WheelPreintegration::new(drive, noise).unwrap();
     let mut text = String::with_capacity(65536);
     let mut accepted = 0;
-    for (i, r) in log[56..].chunks_exact(26).enumerate() {
+    for (i, r) in log[64..].chunks_exact(26).enumerate() {
         let time = f64_at(r, 2);
         let mut m = match r[0] {
             0 => WheelMeasurement::ticks(time, [i64_at(r, 10), i64_at(r, 18)]),

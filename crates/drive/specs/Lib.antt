@@ -3,3 +3,4 @@ pub mod Refusals
 pub mod Readings
 pub mod Drive
 pub mod Noise
+pub mod Statements

@@ -13,6 +13,7 @@ mod wheel;
 
 use ours::Ours;
 use random::Random;
+use wheel::Radii;
 
 fn main() {
     let words: Vec<_> = std::env::args().skip(1).collect();
@@ -29,9 +30,11 @@ fn compare(ours: &Ours, seed: u64) {
     let random = |group: u64| Random(1000 * seed + group);
     let mut groups = vec![
         numbers::leaves(ours, &mut random(17)),
-        wheel::runs(ours, "wheel runs over the whole domain", &wheel::domain_runs(&mut random(1))),
+        wheel::runs(ours, "wheel runs over the whole domain", &wheel::domain_runs(&mut random(1), Radii::One)),
         wheel::runs(ours, "wheel runs of a few readings, up to the domain's end", &wheel::short_runs(&mut random(16))),
-        wheel::runs(ours, "tame wheel walks", &wheel::tame_runs(&mut random(2))),
+        wheel::runs(ours, "tame wheel walks", &wheel::tame_runs(&mut random(2), Radii::One)),
+        wheel::runs(ours, "wheel runs of two radii over the whole domain", &wheel::domain_runs(&mut random(18), Radii::Two)),
+        wheel::runs(ours, "tame wheel walks of two radii", &wheel::tame_runs(&mut random(19), Radii::Two)),
         wheel::runs(ours, "wheel runs that turn as far as they may", &wheel::spinning_runs(&mut random(13))),
         wheel::runs_by_both(ours, "wheel runs of whole turns", &wheel::turning_runs(&mut random(14))),
         wheel::asked(ours, &mut random(3)),

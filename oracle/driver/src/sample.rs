@@ -6,7 +6,7 @@ use crate::inertial::{self, Style, TAME, domain_style, near_bias, window, world}
 use crate::ours::{Records, line, words};
 use crate::random::Random;
 use crate::report::TOLERANCE;
-use crate::wheel::{Asked, Yardstick, composition, domain_run, motion, tame_run};
+use crate::wheel::{Asked, Radii, Yardstick, composition, domain_run, motion, tame_run};
 use std::path::Path;
 
 /// How many samples a batch and a window have.
@@ -72,16 +72,22 @@ pub fn write(folder: &Path) -> std::io::Result<()> {
     let [mut wheel, mut factor, mut imu] = [Tail::new(), Tail::new(), Tail::new()];
     for n in 0..40 {
         let length = 1 + random.below(if n < 30 { 12 } else { 60 });
-        wheel.add(domain_run(&mut random, length).without_refused_8().calls(Yardstick::Own));
+        wheel.add(domain_run(&mut random, length, Radii::One).without_refused_8().calls(Yardstick::Own));
     }
     for _ in 0..8 {
-        wheel.add(tame_run(&mut random, 60).without_refused_8().calls(Yardstick::Own));
+        wheel.add(tame_run(&mut random, 60, Radii::One).without_refused_8().calls(Yardstick::Own));
     }
     for _ in 0..60 {
         let asked = std::iter::repeat_with(|| Asked::draw(&mut random)).find(|asked| !asked.is_left_out()).expect("most are not");
         wheel.add(asked.calls());
         wheel.add(composition(&motion(&mut random), &motion(&mut random)));
         factor.add(factor_calls(&mut random));
+    }
+    let mut two_radii = Random(21);
+    for n in 0..16 {
+        let length = 1 + two_radii.below(12);
+        let run = if n < 12 { domain_run(&mut two_radii, length, Radii::Two) } else { tame_run(&mut two_radii, 60, Radii::Two) };
+        wheel.add(run.without_refused_8().calls(Yardstick::Own));
     }
     for n in 0..20 {
         let style = if n < 10 { domain_style(&mut random) } else { TAME };

@@ -3,7 +3,7 @@ use crate::call::{Call, Part, records};
 use crate::ours::{Ours, bits, words};
 use crate::random::{LEAST, MOST, Random};
 use crate::report::{Group, larger, largest};
-use kornia_algebra::Mat3F64;
+use kornia_algebra::{Mat3F64, Vec3F64};
 use kornia_sensors::wheel::{
     BodyTwist, DifferentialDrive, MAX_SUBSTEP_ANGLE, MAX_SUBSTEP_SECONDS, PlanarMotion, WheelError, WheelKinematics, WheelMeasurement,
     WheelNoise, WheelPreintegration, WheelReading,
@@ -13,7 +13,82 @@ use std::f64::consts::PI;
 /// The Rust's counters turn over at 64 bits.
 pub const WIDTH: u64 = 64;
 
-type Integrator = WheelPreintegration<DifferentialDrive>;
+type Integrator = WheelPreintegration<Cart>;
+
+/// What the Rust's integrator goes by: the Rust's own drive, which has one radius; or two radii and 02's formulas (W-205), which is a kind of
+/// drive that the Rust does not have, in the Rust's own terms.
+#[derive(Clone, Copy)]
+pub enum Cart {
+    OneRadius(DifferentialDrive),
+    /// The drive's own radius is the left one's.
+    TwoRadii(DifferentialDrive, f64),
+}
+
+impl From<DifferentialDrive> for Cart {
+    fn from(drive: DifferentialDrive) -> Self {
+        Self::OneRadius(drive)
+    }
+}
+
+impl Cart {
+    fn drive(&self) -> &DifferentialDrive {
+        match self {
+            Self::OneRadius(drive) | Self::TwoRadii(drive, _) => drive,
+        }
+    }
+
+    fn radii(&self) -> [f64; 2] {
+        match self {
+            Self::OneRadius(drive) => [drive.wheel_radius; 2],
+            Self::TwoRadii(drive, right) => [drive.wheel_radius, *right],
+        }
+    }
+
+    /// How fast each wheel rolls.
+    fn products(&self, rates: [f64; 2]) -> [f64; 2] {
+        let ([l, r], [left, right]) = (self.radii(), rates);
+        [l * left, r * right]
+    }
+
+    /// 02: the products before their sum and difference.
+    fn twist_by_products(&self, rates: [f64; 2]) -> BodyTwist {
+        let [left, right] = self.products(rates);
+        BodyTwist { vx: 0.5 * (left + right), vy: 0.0, wz: (right - left) / self.drive().track_width }
+    }
+
+    /// Whether the products nearly cancel: then what is left of them is the rounding of each.
+    fn is_nearly_straight(&self, rates: [f64; 2]) -> bool {
+        let [left, right] = self.products(rates);
+        left != right && (right - left).abs() < 1e-6 * larger(left.abs(), right.abs())
+    }
+}
+
+impl WheelKinematics for Cart {
+    fn is_valid(&self) -> bool {
+        self.radii().iter().all(|r| r.is_finite() && *r > 0.0) && self.drive().is_valid()
+    }
+
+    fn ticks_per_revolution(&self) -> f64 {
+        self.drive().ticks_per_revolution
+    }
+
+    fn twist(&self, rates: [f64; 2]) -> BodyTwist {
+        match self {
+            Self::OneRadius(drive) => drive.twist(rates),
+            Self::TwoRadii(..) => self.twist_by_products(rates),
+        }
+    }
+
+    fn twist_jacobian(&self, rates: [f64; 2]) -> [Vec3F64; 2] {
+        match self {
+            Self::OneRadius(drive) => drive.twist_jacobian(rates),
+            Self::TwoRadii(drive, right) => {
+                let column = |r: f64, sign: f64| Vec3F64::new(r / 2.0, 0.0, sign * (r / drive.track_width));
+                [column(drive.wheel_radius, -1.0), column(*right, 1.0)]
+            }
+        }
+    }
+}
 
 pub const UNIT: DifferentialDrive = DifferentialDrive { wheel_radius: 1.0, track_width: 1.0, ticks_per_revolution: 1.0 };
 
@@ -38,7 +113,7 @@ enum Event {
 }
 
 pub struct Run {
-    drive: DifferentialDrive,
+    cart: Cart,
     noise: WheelNoise,
     seen: Vec<Seen>,
     /// Readings drawn and given to neither, and why.
@@ -46,8 +121,9 @@ pub struct Run {
 }
 
 const NEAR_POWER: &str = "readings whose ratio is within 1e-12 above a power of two, given to neither";
-const NEARLY_ALIKE: &str = "whose wheels roll alike but for less than a millionth, so that the yaw rate is rounding, given to neither";
-const OTHER_COUNT: &str = "readings that ours halves once more or once less, given to neither";
+const NEARLY_STRAIGHT: &str = "equal radii whose products differ by less than a millionth, so that the yaw rate is rounding, given to neither";
+const TURNED_APART: &str = "equal radii over so many turns that the last bits of the two yaw rates come to more than 1e-9 rad, given to neither";
+const OTHER_COUNT: &str = "equal radii that ours halves once more or once less, given to neither";
 
 // ---- the Rust
 
@@ -63,22 +139,10 @@ fn refusal(e: WheelError) -> Vec<u64> {
     }
 }
 
-/// 02's twist, W-205, of a drive with this radius on both sides: products before sums. The Rust's has the sum first.
-fn twist_by_products(drive: &DifferentialDrive, [left, right]: [f64; 2]) -> BodyTwist {
-    let [left, right] = [drive.wheel_radius * left, drive.wheel_radius * right];
-    BodyTwist { vx: 0.5 * (left + right), vy: 0.0, wz: (right - left) / drive.track_width }
-}
-
-/// Whether the two products nearly cancel: then what is left of them is the rounding of each.
-fn are_nearly_alike(drive: &DifferentialDrive, rates: [f64; 2]) -> bool {
-    let [left, right] = rates.map(|w| drive.wheel_radius * w);
-    left != right && (right - left).abs() < 1e-6 * larger(left.abs(), right.abs())
-}
-
 /// A reading's time step and rates, where the Rust would come to them.
-fn interval(drive: &DifferentialDrive, last: &WheelMeasurement, m: &WheelMeasurement) -> Option<(f64, [f64; 2])> {
+fn interval(drive: &Cart, last: &WheelMeasurement, m: &WheelMeasurement) -> Option<(f64, [f64; 2])> {
     let dt = m.timestamp - last.timestamp;
-    if !(m.valid && dt > 0.0) {
+    if !(m.valid && dt > 0.0 && dt.is_finite()) {
         return None;
     }
     let rates = match (last.reading, m.reading) {
@@ -111,40 +175,48 @@ fn is_near_power(ratio: f64) -> bool {
 }
 
 impl Run {
-    fn new(drive: DifferentialDrive, noise: WheelNoise) -> (Self, Integrator) {
-        let rust = Integrator::new(drive, noise).expect("fit");
-        (Self { drive, noise, seen: vec![], left_out: vec![] }, rust)
+    fn new(cart: Cart, noise: WheelNoise) -> (Self, Integrator) {
+        let rust = Integrator::new(cart, noise).expect("fit");
+        (Self { cart, noise, seen: vec![], left_out: vec![] }, rust)
     }
 
     fn saw(&mut self, event: Event, said: Vec<u64>, rust: &Integrator, way: (f64, f64)) {
         self.seen.push(Seen { way, event, said, motion: *rust.motion(), dt: rust.dt(), last: rust.last().copied() });
     }
 
-    /// Why a reading is outside what is compared, if it is.
+    /// Why an interval is not compared, where the two twists are not the same.
     fn reason_to_leave_out(&self, dt: f64, rates: [f64; 2]) -> Option<&'static str> {
-        let [theirs, ours] = [self.drive.twist(rates), twist_by_products(&self.drive, rates)].map(|twist| ratio(dt, &twist));
-        if is_near_power(theirs) {
-            return Some(NEAR_POWER);
+        let [theirs, ours] = [self.cart.twist(rates), self.cart.twist_by_products(rates)];
+        if theirs.wz == ours.wz {
+            return None;
         }
-        if are_nearly_alike(&self.drive, rates) {
-            return Some(NEARLY_ALIKE);
+        if self.cart.is_nearly_straight(rates) {
+            return Some(NEARLY_STRAIGHT);
         }
-        (least_halvings(theirs) != least_halvings(ours)).then_some(OTHER_COUNT)
+        if ((theirs.wz - ours.wz) * dt).abs() > 1e-9 {
+            return Some(TURNED_APART);
+        }
+        (least_halvings(ratio(dt, &theirs)) != least_halvings(ratio(dt, &ours))).then_some(OTHER_COUNT)
     }
 
     /// Gives the reading to the Rust, unless it is outside the domain.
     fn read(&mut self, m: WheelMeasurement, rust: &mut Integrator) {
-        let between = rust.last().and_then(|last| interval(&self.drive, last, &m));
+        let between = rust.last().and_then(|last| interval(&self.cart, last, &m));
         let mut way = (0.0, 0.0);
         if let Some((dt, rates)) = between {
-            if let Some(why) = self.reason_to_leave_out(dt, rates) {
-                self.left_out.push(why);
+            let twist = self.cart.twist(rates);
+            if is_near_power(ratio(dt, &twist)) {
+                self.left_out.push(NEAR_POWER);
                 return;
             }
-            let twist = twist_by_products(&self.drive, rates);
-            let angle = twist.wz * (dt / f64::from(1u32 << least_halvings(ratio(dt, &twist))));
+            let ours = self.cart.twist_by_products(rates);
+            let angle = ours.wz * (dt / f64::from(1u32 << least_halvings(ratio(dt, &ours))));
             if angle.is_finite() && angle.abs() > 4.0 {
                 self.saw(Event::Refused8(m), vec![8], rust, way);
+                return;
+            }
+            if let Some(why) = self.reason_to_leave_out(dt, rates) {
+                self.left_out.push(why);
                 return;
             }
             way = ((twist.vx * dt).abs().min((2.0 * twist.vx / twist.wz).abs()), (twist.wz * dt).abs().min(PI));
@@ -181,8 +253,31 @@ fn any_drive(random: &mut Random) -> DifferentialDrive {
     DifferentialDrive { wheel_radius: random.positive(), track_width: random.positive(), ticks_per_revolution: random.positive() }
 }
 
-pub fn domain_run(random: &mut Random, length: u64) -> Run {
+/// The same with a right wheel of its own: half of the time of any size, otherwise within a hundredth of the left one's.
+fn with_two_radii(random: &mut Random, drive: DifferentialDrive) -> Cart {
+    let right = if random.once_in(2) { random.positive() } else { drive.wheel_radius * random.between(0.99, 1.01) };
+    Cart::TwoRadii(drive, right.clamp(LEAST, MOST))
+}
+
+/// Which radii a run's cart has.
+#[derive(Clone, Copy)]
+pub enum Radii {
+    One,
+    Two,
+}
+
+impl Radii {
+    fn cart(self, random: &mut Random, drive: DifferentialDrive) -> Cart {
+        match self {
+            Self::One => drive.into(),
+            Self::Two => with_two_radii(random, drive),
+        }
+    }
+}
+
+pub fn domain_run(random: &mut Random, length: u64, radii: Radii) -> Run {
     let drive = any_drive(random);
+    let cart = radii.cart(random, drive);
     let noise = WheelNoise { wheel_rate: random.any_size(), lateral_velocity: random.any_size() };
     let style = Style {
         is_ticks: random.once_in(2),
@@ -194,7 +289,7 @@ pub fn domain_run(random: &mut Random, length: u64) -> Run {
         nominal: 0.0,
     };
     let start = if style.step * length as f64 > 1e6 { -MOST } else { random.any() };
-    drawn(random, drive, noise, style, start, length)
+    drawn(random, cart, noise, style, start, length)
 }
 
 /// A few readings whose time steps, rates and ticks go up to the domain's end.
@@ -204,29 +299,30 @@ fn short_run(random: &mut Random) -> Run {
     let (is_ticks, is_paired) = (random.once_in(2), random.once_in(2));
     let style = Style { is_ticks, step: MOST, rate: MOST, tick, is_paired, is_tame: false, nominal: 0.0 };
     let start = if random.once_in(2) { -MOST } else { random.any() };
-    drawn(random, drive, noise, style, start, 5)
+    drawn(random, drive.into(), noise, style, start, 5)
 }
 
 pub fn short_runs(random: &mut Random) -> Vec<Run> {
     (0..2000).map(|_| short_run(random)).collect()
 }
 
-pub fn tame_run(random: &mut Random, length: u64) -> Run {
+pub fn tame_run(random: &mut Random, length: u64, radii: Radii) -> Run {
     let drive = DifferentialDrive {
         wheel_radius: random.between(0.03, 0.3),
         track_width: random.between(0.2, 1.0),
         ticks_per_revolution: random.one_of(&[360.0, 512.0, 1024.0, 4096.0, 8191.5]),
     };
+    let cart = radii.cart(random, drive);
     let noise = WheelNoise { wheel_rate: random.between(0.0, 0.1), lateral_velocity: random.between(0.0, 0.05) };
     let nominal = random.one_of(&[0.0, 0.0, 0.0, 0.005, 0.01, 0.02, 0.05, 0.16]);
     let style =
         Style { is_ticks: random.once_in(2), step: 0.2, rate: 10.0, tick: 500.0, is_paired: random.once_in(2), is_tame: true, nominal };
     let start = random.between(1.0, 1000.0);
-    drawn(random, drive, noise, style, start, length)
+    drawn(random, cart, noise, style, start, length)
 }
 
-fn drawn(random: &mut Random, drive: DifferentialDrive, noise: WheelNoise, style: Style, start: f64, length: u64) -> Run {
-    let (mut run, mut rust) = Run::new(drive, noise);
+fn drawn(random: &mut Random, cart: Cart, noise: WheelNoise, style: Style, start: f64, length: u64) -> Run {
+    let (mut run, mut rust) = Run::new(cart, noise);
     let mut time = start;
     let mut ticks = [random.word() as i64, random.word() as i64];
     if random.once_in(3) {
@@ -306,13 +402,14 @@ fn not_finite(random: &mut Random, m: WheelMeasurement) -> WheelMeasurement {
 
 // ---- calls
 
-/// A drive of ours with the Rust's radius on both sides.
-fn drive_words(drive: &DifferentialDrive, width: u64) -> Vec<u64> {
-    [words(&[drive.wheel_radius, drive.wheel_radius, drive.track_width, drive.ticks_per_revolution]), vec![width]].concat()
+/// A drive of ours: of one radius, both wheels have it.
+fn drive_words(cart: &Cart, width: u64) -> Vec<u64> {
+    let (drive, [left, right]) = (cart.drive(), cart.radii());
+    [words(&[left, right, drive.track_width, drive.ticks_per_revolution]), vec![width]].concat()
 }
 
-fn settings_words(drive: &DifferentialDrive, noise: &WheelNoise) -> Vec<u64> {
-    [drive_words(drive, WIDTH), words(&[noise.wheel_rate, noise.lateral_velocity])].concat()
+fn settings_words(cart: &Cart, noise: &WheelNoise) -> Vec<u64> {
+    [drive_words(cart, WIDTH), words(&[noise.wheel_rate, noise.lateral_velocity])].concat()
 }
 
 pub fn motion_words(m: &PlanarMotion) -> Vec<u64> {
@@ -338,21 +435,22 @@ pub fn read(m: &WheelMeasurement) -> Call {
 }
 
 /// Begins a walk with a drive and a noise that are fit.
-pub fn begin(drive: &DifferentialDrive, noise: &WheelNoise) -> Call {
-    let rust = Integrator::new(*drive, *noise).expect("fit");
-    let settings = settings_words(drive, noise);
+pub fn begin(cart: impl Into<Cart>, noise: &WheelNoise) -> Call {
+    let cart = cart.into();
+    let rust = Integrator::new(cart, *noise).expect("fit");
+    let settings = settings_words(&cart, noise);
     let state = [vec![0], settings.clone(), motion_words(rust.motion()), words(&[rust.dt()]), last_words(rust.last().copied())].concat();
     Call { kind: 2, words: settings, answer: vec![Part::Kept(state)] }
 }
 
 /// Begins a walk of the default noise with counters of another width, which the Rust does not know.
-pub fn begin_counting(drive: &DifferentialDrive, width: u64) -> Call {
-    Call::unanswered(3, drive_words(drive, width))
+pub fn begin_counting(drive: DifferentialDrive, width: u64) -> Call {
+    Call::unanswered(3, drive_words(&drive.into(), width))
 }
 
 /// Hands in a state of this drive and motion, fit or not.
-pub fn hand_in(drive: &DifferentialDrive, motion: &PlanarMotion) -> Call {
-    let words = [settings_words(drive, &WheelNoise::default()), motion_words(motion), words(&[0.0]), last_words(None)].concat();
+pub fn hand_in(drive: DifferentialDrive, motion: &PlanarMotion) -> Call {
+    let words = [settings_words(&drive.into(), &WheelNoise::default()), motion_words(motion), words(&[0.0]), last_words(None)].concat();
     Call { kind: 7, words: words.clone(), answer: vec![Part::Kept(words)] }
 }
 
@@ -375,7 +473,7 @@ impl Run {
 
     /// The beginning, and every event with the whole state after it.
     pub fn calls(&self, by: Yardstick) -> Vec<Call> {
-        let mut calls = vec![begin(&self.drive, &self.noise)];
+        let mut calls = vec![begin(self.cart, &self.noise)];
         let mut sizes = Sizes::default();
         for s in &self.seen {
             let mut call = match &s.event {
@@ -390,7 +488,7 @@ impl Run {
                 sizes.reach_on_the_way(s.way);
             }
             call.answer.push(Part::Same("refusals and their times", s.said.clone()));
-            call.answer.push(Part::Kept(settings_words(&self.drive, &self.noise)));
+            call.answer.push(Part::Kept(settings_words(&self.cart, &self.noise)));
             call.answer.extend(motion_parts(&s.motion, &sizes));
             call.answer.push(Part::Same("dt", words(&[s.dt])));
             call.answer.push(Part::Same("last reading", last_words(s.last)));
@@ -477,7 +575,7 @@ fn judged(ours: &Ours, name: &'static str, runs: &[Run], by: Yardstick) -> Group
     group
 }
 
-pub fn domain_runs(random: &mut Random) -> Vec<Run> {
+pub fn domain_runs(random: &mut Random, radii: Radii) -> Vec<Run> {
     let length = |random: &mut Random| match random.below(4) {
         0 => 1 + random.below(10),
         1 => 10 + random.below(90),
@@ -487,13 +585,13 @@ pub fn domain_runs(random: &mut Random) -> Vec<Run> {
     (0..200)
         .map(|_| {
             let n = length(random);
-            domain_run(random, n)
+            domain_run(random, n, radii)
         })
         .collect()
 }
 
-pub fn tame_runs(random: &mut Random) -> Vec<Run> {
-    (0..40).map(|_| tame_run(random, 1000)).collect()
+pub fn tame_runs(random: &mut Random, radii: Radii) -> Vec<Run> {
+    (0..40).map(|_| tame_run(random, 1000, radii)).collect()
 }
 
 /// The hardest: every interval turns as far as the refusal 8 allows, or nearly, and the same each time, so that what 20 doublings do to a heading
@@ -508,7 +606,7 @@ fn spinning_run(random: &mut Random) -> Run {
     let step = random.between(16.0, 900.0);
     let apart = random.between(1.0, 4.0) * f64::from(1 << 20) / step / drive.wheel_radius;
     let left = random.between(-1.0, 1.0) * apart;
-    let (mut run, mut rust) = Run::new(drive, noise);
+    let (mut run, mut rust) = Run::new(drive.into(), noise);
     let is_even = random.once_in(2);
     for i in 0..1000 {
         let time = if is_even { f64::from(i) * step.floor() } else { f64::from(i) * step };
@@ -529,7 +627,7 @@ fn turning_run(random: &mut Random) -> Run {
     let noise = WheelNoise { wheel_rate: random.any_size(), lateral_velocity: random.any_size() };
     let step = random.between(0.01, 900.0);
     let mut ticks = [random.word() as i64, random.word() as i64];
-    let (mut run, mut rust) = Run::new(drive, noise);
+    let (mut run, mut rust) = Run::new(drive.into(), noise);
     for i in 0..200 {
         run.read(WheelMeasurement::ticks(f64::from(i) * step, ticks), &mut rust);
         ticks = [ticks[0].wrapping_add(random.below(3) as i64), ticks[1].wrapping_add(random.below(1000) as i64)];
@@ -559,7 +657,7 @@ impl Asked {
     }
 
     pub fn is_left_out(&self) -> bool {
-        are_nearly_alike(&self.drive, self.rates)
+        Cart::from(self.drive).is_nearly_straight(self.rates)
     }
 
     /// The drive, and what it gives.
@@ -578,7 +676,7 @@ impl Asked {
             Call { kind, words: asked, answer }
         };
         [
-            begin(&self.drive, &WheelNoise::default()),
+            begin(self.drive, &WheelNoise::default()),
             Call { kind: 8, words: words(&self.rates), answer: twist },
             ask(9, ticks, "rates from ticks", &self.drive.wheel_rates_from_ticks(self.ticks, self.dt)),
             ask(10, vec![], "Jacobian", &jacobian),
@@ -589,10 +687,10 @@ impl Asked {
 pub fn asked(ours: &Ours, random: &mut Random) -> Group {
     let mut group = Group::new("twists, rates from ticks and Jacobians, asked on their own; the default noise", "");
     let (left_out, compared): (Vec<_>, Vec<_>) = (0..10_000).map(|_| Asked::draw(random)).partition(Asked::is_left_out);
-    left_out.iter().for_each(|_| group.leave_out(NEARLY_ALIKE));
+    left_out.iter().for_each(|_| group.leave_out(NEARLY_STRAIGHT));
     let cases: Vec<_> = compared.iter().map(Asked::calls).collect();
     let WheelNoise { wheel_rate, lateral_velocity } = WheelNoise::default();
-    let drive = drive_words(&UNIT, WIDTH);
+    let drive = drive_words(&UNIT.into(), WIDTH);
     let default = Part::Same("default noise", words(&[wheel_rate, lateral_velocity]));
     let begun = Call { kind: 3, words: drive.clone(), answer: vec![Part::Kept(vec![0]), Part::Kept(drive), default] };
     group.ask(ours, "wheel_cases", &cases);
@@ -631,7 +729,7 @@ pub fn motion(random: &mut Random) -> PlanarMotion {
 pub fn composition(a: &PlanarMotion, b: &PlanarMotion) -> [Call; 2] {
     let mut answer = vec![Part::Same("refusals", vec![0])];
     answer.extend(motion_parts(&a.compose(b), &Sizes::of_composition(a, b)));
-    [hand_in(&UNIT, a), Call { kind: 11, words: motion_words(b), answer }]
+    [hand_in(UNIT, a), Call { kind: 11, words: motion_words(b), answer }]
 }
 
 pub fn compositions(ours: &Ours, random: &mut Random) -> Group {

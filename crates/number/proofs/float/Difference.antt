@@ -1,22 +1,24 @@
 -- The difference of two f64s tells how they compare. One above zero does so for any two. Conversely two finite f64s that differ do so by the smallest value at least,
 -- so their difference does not round to zero: underflow is gradual. Assumes nothing.
 use mathlib.Core.Path.{_≡_, refl, sym, ap, _∙_}
-use Prim.Native.Nat.{ℕ, _*_, _^_, _<_, _≤_}
-use native.Mathlib.Nat.{mul-comm, mul-pos, not-le-of-lt}
+use Prim.Native.Nat.{ℕ, zero as none, suc, _*_, _-_, _^_, _<_, _≤_}
+use native.Mathlib.Nat.{mul-comm, mul-pos, not-le-of-lt, zero-mul, zero-lt-suc}
 use native.Mathlib.Omega.{arith}
-use mathlib.Core.Bool.{Bool, true, false, false≢true}
-use borrow.Author.Tests.{ltb-true, lt-ltb, eqb-true, eqb-false}
-use lib.Dec.{T, eqb}
+use mathlib.Core.Bool.{Bool, true, false, cond, not, false≢true}
+use borrow.Author.Tests.{ltb-true, lt-ltb, le-ltb, eqb-true, eqb-false}
+use lib.Dec.{T, eqb, eqb·suc-zero}
 use lib.Ieee as Ieee
-use lib.Ieee.{Float, nan, inf, fin, isNan, fits, round, binary64}
+use lib.Ieee.{Float, nan, inf, fin, isNan, fits, round, sum, up, down, binary64}
+use lib.Ieee.Fits.{up-pos, down-pos}
 use lib.Ieee.Positive.{den, den-pos}
-use Rattle.number.specs.Float.{finite, _⊖_, _<ᶠ_, _=ᶠ_}
+use Rattle.number.specs.Float.{finite, _⊖_, _⊘_, _<ᶠ_, _=ᶠ_}
 use Rattle.number.specs.Constants.{zero}
 use Rattle.number.proofs.float.Fraction.{cross, common, excess, Rounded, above, under, <ᶠ-cross, =ᶠ-cross, ⊖-cross, same-test}
 use Rattle.number.proofs.float.Multiples.{gap}
 use Rattle.number.proofs.float.Order.{<ᶠ-connected}
 use Rattle.number.proofs.float.Parts.{difference-no-nan}
-use Rattle.number.proofs.float.Round.{round-negative, round-some, round-above, round-zero}
+use Rattle.number.proofs.float.Round.{round-negative, round-none, round-some, round-above, round-zero}
+use Rattle.number.proofs.float.Zero.{is-above}
 
 common-pos : (a b : Float) → 0 < common a b
 common-pos a b = mul-pos (den-pos a) (den-pos b)
@@ -77,3 +79,32 @@ difference-zero a b f g p q = go (⊖-cross a b p q) ∙ sym (=ᶠ-cross a b p q
     go : Rounded (a ⊖ b) (cross a b) (cross b a) (common a b) → (a ⊖ b =ᶠ zero) ≡ eqb (cross a b) (cross b a)
     go (above l r) = test false (excess a b) r (gap a b f g) (omega arith) (omega arith)
     go (under l r) = test true (excess b a) r (rw (mul-comm (den a) (den b)) (gap b a g f)) (omega arith) (omega arith)
+
+-- ---- +0 to the bit: what is taken from itself, and what +0 is divided into
+
+nothing-left : (a : ℕ) → a - a ≡ 0
+nothing-left a = omega arith
+
+itself-summed : (s : Bool) (a c : ℕ) → 0 < c → sum binary64 s a (not s) a c ≡ zero
+unfolding sum Ieee.ofBits
+itself-summed false a c C = rw (le-ltb a a (omega arith), nothing-left a) (round-none false c C)
+itself-summed true a c C = rw (le-ltb a a (omega arith), nothing-left a) (round-none false c C)
+
+pub less-itself : (x : Float) → finite x ≡ true → x ⊖ x ≡ zero
+unfolding Ieee.sub
+less-itself nan p = absurd (false≢true p)
+less-itself (inf s) p = absurd (false≢true p)
+less-itself (fin s m e) p = itself-summed s (m * up e * down e) (down e * down e) (mul-pos (down-pos e) (down-pos e))
+
+none-rounded : (p : Bool) (a c : ℕ) (y : Float) → p ≡ false → a ≡ 0 → 0 < c → cond p y (round binary64 false a c) ≡ zero
+unfolding Ieee.ofBits
+none-rounded p a c y P A C = rw (P, A) (round-none false c C)
+
+pub zero-over : (x : Float) → (zero <ᶠ x) ≡ true → finite x ≡ true → zero ⊘ x ≡ zero
+unfolding Ieee.div Ieee.ofBits
+zero-over nan p q = absurd (false≢true q)
+zero-over (inf s) p q = absurd (false≢true q)
+zero-over (fin true m e) p q = absurd (false≢true (sym (is-above (fin true m e)) ∙ p))
+zero-over (fin false none e) p q = absurd (false≢true (sym (is-above (fin false none e)) ∙ p))
+zero-over (fin false (suc m) e) p q =
+    none-rounded (eqb (suc m) 0) (0 * down e) (suc m * up e * 1) _ (eqb·suc-zero m) (zero-mul (down e)) (omega (arith, mul-pos (zero-lt-suc m) (up-pos e)))

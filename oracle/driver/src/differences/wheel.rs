@@ -43,7 +43,7 @@ const QUIET: WheelNoise = WheelNoise { wheel_rate: 0.0, lateral_velocity: 0.0 };
 
 /// Constant rates at some times.
 fn step(place: &'static str, rates: [f64; 2], times: &[f64]) -> Row {
-    let mut calls = vec![begin(&UNIT, &QUIET)];
+    let mut calls = vec![begin(UNIT, &QUIET)];
     let mut rust = WheelPreintegration::new(UNIT, QUIET).expect("fit");
     let mut said = String::new();
     for t in times {
@@ -61,7 +61,7 @@ fn step(place: &'static str, rates: [f64; 2], times: &[f64]) -> Row {
 /// Two readings of counters that are as wide for ours as is said, on wheels one count of which is a metre of floor.
 fn counted(place: &'static str, width: u64, from: [i64; 2], to: [i64; 2]) -> Row {
     let drive = DifferentialDrive { ticks_per_revolution: 2.0 * PI, ..UNIT };
-    let mut calls = vec![begin_counting(&drive, width)];
+    let mut calls = vec![begin_counting(drive, width)];
     let mut rust = WheelPreintegration::new(drive, WheelNoise::default()).expect("fit");
     let mut said = String::new();
     for (t, ticks) in [(0.0, from), (1.0, to)] {
@@ -81,15 +81,15 @@ fn asked_rows() -> Vec<Row> {
     let steep = DifferentialDrive { track_width: 1e-308, wheel_radius: 1e10, ..UNIT };
     let twist = |place, input: &str, drive: DifferentialDrive, rates: [f64; 2]| {
         let t = drive.twist(rates);
-        row(place, input, &drive, Call::unanswered(8, words(&rates)), &[t.vx, t.vy, t.wz])
+        row(place, input, drive, Call::unanswered(8, words(&rates)), &[t.vx, t.vy, t.wz])
     };
     let rates = |place, input: &str, ticks: [i64; 2], dt: f64| {
         let ask = Call::unanswered(9, vec![ticks[0] as u64, ticks[1] as u64, bits(dt)]);
-        row(place, input, &UNIT, ask, &UNIT.wheel_rates_from_ticks(ticks, dt))
+        row(place, input, UNIT, ask, &UNIT.wheel_rates_from_ticks(ticks, dt))
     };
     let jacobian = |place, input: &str, drive: DifferentialDrive| {
         let [l, r] = drive.twist_jacobian([0.0; 2]);
-        row(place, input, &drive, Call::unanswered(10, vec![]), &[l.to_array(), r.to_array()].concat())
+        row(place, input, drive, Call::unanswered(10, vec![]), &[l.to_array(), r.to_array()].concat())
     };
     vec![
         twist("twist of an unfit drive", "radius 0, rates 1, 1", no_radius, [1.0, 1.0]),
@@ -109,7 +109,7 @@ fn asked_rows() -> Vec<Row> {
     ]
 }
 
-fn row(place: &'static str, input: &str, drive: &DifferentialDrive, ask: Call, rust: &[f64]) -> Row {
+fn row(place: &'static str, input: &str, drive: DifferentialDrive, ask: Call, rust: &[f64]) -> Row {
     let calls = vec![hand_in(drive, &PlanarMotion::IDENTITY), ask];
     Row { place, input: input.into(), rust: listed(rust), calls, read: |line| unless_refused(line, |line| numbers(&line.take(6))) }
 }
@@ -142,7 +142,7 @@ fn halving_rows() -> Vec<Row> {
 
 fn halving_row(dt: f64) -> Row {
     let noise = WheelNoise { wheel_rate: 1.0, lateral_velocity: 0.0 };
-    let mut calls = vec![begin(&UNIT, &noise)];
+    let mut calls = vec![begin(UNIT, &noise)];
     let mut rust = WheelPreintegration::new(UNIT, noise).expect("fit");
     for t in [0.0, dt] {
         let m = WheelMeasurement::angular_velocity(t, [1.0, 1.0]);
