@@ -1,5 +1,5 @@
 -- The difference of two f64s tells how they compare. One above zero does so for any two. Conversely two finite f64s that differ do so by the smallest value at least,
--- so their difference does not round to zero: underflow is gradual. Assumes nothing.
+-- so their difference does not round to zero: underflow is gradual. A finite f64 less itself is +0, and so is +0 over what is above zero. Assumes nothing.
 use mathlib.Core.Path.{_≡_, refl, sym, ap, _∙_}
 use Prim.Native.Nat.{ℕ, zero as none, suc, _*_, _-_, _^_, _<_, _≤_}
 use native.Mathlib.Nat.{mul-comm, mul-pos, not-le-of-lt, zero-mul, zero-lt-suc}

@@ -21,12 +21,13 @@ is-width-requires c κs = search needs
 returns : tie.Need-returns
 unfolding validDrive
 returns c =
-    rw
-    (c .is-width .ensures,
-    c .before .is-finite-positive4 .ensures,
-    c .before .before .is-finite-positive3 .ensures,
-    c .before .before .before .is-finite-positive2 .ensures,
-    c .before .before .before .before .is-finite-positive .ensures)
+    rw (
+      c .is-width .ensures,
+      c .before .is-finite-positive4 .ensures,
+      c .before .before .is-finite-positive3 .ensures,
+      c .before .before .before .is-finite-positive2 .ensures,
+      c .before .before .before .before .is-finite-positive .ensures,
+    )
 
 pub is-valid-spec : {M : Type 1} → statement M
 is-valid-spec =
