@@ -121,8 +121,10 @@ pub struct Run {
 }
 
 const NEAR_POWER: &str = "readings whose ratio is within 1e-12 above a power of two, given to neither";
-const NEARLY_STRAIGHT: &str = "equal radii whose products differ by less than a millionth, so that the yaw rate is rounding, given to neither";
-const TURNED_APART: &str = "equal radii over so many turns that the last bits of the two yaw rates come to more than 1e-9 rad, given to neither";
+const NEARLY_STRAIGHT: &str =
+    "equal radii whose products differ by less than a millionth, so that the yaw rate is rounding, given to neither";
+const TURNED_APART: &str =
+    "equal radii over so many turns that the last bits of the two yaw rates come to more than 1e-9 rad, given to neither";
 const OTHER_COUNT: &str = "equal radii that ours halves once more or once less, given to neither";
 
 // ---- the Rust
@@ -253,13 +255,7 @@ fn any_drive(random: &mut Random) -> DifferentialDrive {
     DifferentialDrive { wheel_radius: random.positive(), track_width: random.positive(), ticks_per_revolution: random.positive() }
 }
 
-/// The same with a right wheel of its own: half of the time of any size, otherwise within a hundredth of the left one's.
-fn with_two_radii(random: &mut Random, drive: DifferentialDrive) -> Cart {
-    let right = if random.once_in(2) { random.positive() } else { drive.wheel_radius * random.between(0.99, 1.01) };
-    Cart::TwoRadii(drive, right.clamp(LEAST, MOST))
-}
-
-/// Which radii a run's cart has.
+/// Which radii a run's cart has: the Rust's one; or a right one beside it, half of the time of any size, otherwise within a hundredth of it.
 #[derive(Clone, Copy)]
 pub enum Radii {
     One,
@@ -270,7 +266,10 @@ impl Radii {
     fn cart(self, random: &mut Random, drive: DifferentialDrive) -> Cart {
         match self {
             Self::One => drive.into(),
-            Self::Two => with_two_radii(random, drive),
+            Self::Two => {
+                let right = if random.once_in(2) { random.positive() } else { drive.wheel_radius * random.between(0.99, 1.01) };
+                Cart::TwoRadii(drive, right.clamp(LEAST, MOST))
+            }
         }
     }
 }

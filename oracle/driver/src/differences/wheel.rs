@@ -97,7 +97,12 @@ fn asked_rows() -> Vec<Row> {
         twist("yaw rate of equal radii", "radii 0.1, track 1, rates 1, 3", of_radius(0.1), [1.0, 3.0]),
         twist("both numbers of a twist of equal radii", "radii 0.7, track 1, rates 2, 3", of_radius(0.7), [2.0, 3.0]),
         twist("forward speed of the smallest equal radii", "radii 5e-324, track 1, rates 1, 1", of_radius(5e-324), [1.0, 1.0]),
-        twist("yaw rate of rates that are nearly the same", "radii 0.1, track 1, rates 3, 3.0000000000000004", of_radius(0.1), [3.0, 3.0000000000000004]),
+        twist(
+            "yaw rate of rates that are nearly the same",
+            "radii 0.1, track 1, rates 3, 3.0000000000000004",
+            of_radius(0.1),
+            [3.0, 3.0000000000000004],
+        ),
         twist("twist of equal radii whose products overflow together", "radii 1e308, track 1, rates 1, 1", large, [1.0, 1.0]),
         twist("twist that overflows", "radius 1e308, track 1, rates 10, 10", large, [10.0, 10.0]),
         rates("rates over no time", "ticks 1, 0, dt 0", [1, 0], 0.0),
