@@ -1,3 +1,5 @@
+-- `is_valid` meets its contract: it asks what the definition asks, test by test. They are put in one by one and not searched for, so that a test of
+-- another number is refused by that number. Assumes nothing.
 use Rattle.drive.specs.Drive.{validDrive}
 use borrow.Author.Needs.{needs}
 use Rattle.drive.proofs.DifferentialDrive.is_valid.Statement.{statement}
