@@ -55,7 +55,10 @@ fn near(a: f64, b: f64) {
     assert!((a - b).abs() <= 1e-9 * a.abs().max(b.abs()), "{a} {b}");
 }
 
-// ---- inputs: one walk, as 26-byte events and as the Rust's measurements
+// ---- inputs: one walk, as 64-byte events and as the Rust's measurements
+
+/// How many bytes an event has; a reading's 26 stand at its front.
+const EVENT: usize = 64;
 
 struct Walk {
     bytes: Vec<u8>,
@@ -74,6 +77,7 @@ fn walk(n: usize, hertz: f64) -> Walk {
         bytes.extend(time.to_le_bytes());
         bytes.extend(left.to_le_bytes());
         bytes.extend(right.to_le_bytes());
+        bytes.resize(EVENT * (i + 1), 0);
         readings.push(WheelMeasurement::ticks(time, [left, right]));
     }
     Walk { bytes, readings }
@@ -118,7 +122,7 @@ fn log(n: usize, width: u32) -> Vec<u8> {
     }
     log.extend((width as u64).to_le_bytes());
     log.extend((n as u32).to_le_bytes());
-    for r in walk(n, 10.0).bytes.chunks_exact(26) {
+    for r in walk(n, 10.0).bytes.chunks_exact(EVENT) {
         log.extend(&r[..10]);
         log.extend(turned_over(i64_at(r, 10), width).to_le_bytes());
         log.extend(turned_over(i64_at(r, 18), width).to_le_bytes());

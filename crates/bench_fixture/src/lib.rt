@@ -38,7 +38,7 @@ pub extern "C" fn bench_sine_plus_cosine(x: f64) -> f64
     v.sin + v.cos
 }
 
-// How long a run of 26-byte events took, on a cart with wheels of 0.1 m, a track of 0.5 m, 65,536 ticks to a turn and counters of 64 bits.
+// How long a run of events took, on a cart with wheels of 0.1 m, a track of 0.5 m, 65,536 ticks to a turn and counters of 64 bits.
 #[no_mangle]
 pub extern "C" fn bench_wheel_run(events: &[u8]) -> f64
     ensures { λ r. ⌜ r ≡ ranOf cart (eventsIn (now (events .entry))) .state .accumulated .dt ⌝ }

@@ -12,6 +12,11 @@ pub fn read_word() -> u64 {
     words::u64_at(&s, 0)
 }
 
+// Bytes past the end of the input are left as they are.
+pub fn read_bytes(out: &mut [u8]) {
+    io::read_full(STDIN_FILENO, out);
+}
+
 pub fn read_f64() -> f64 {
     words::of_bits(read_word())
 }

@@ -1,5 +1,5 @@
 -- 01, The wheel step: "Rate from ticks", "Rate from rates", and "asked for on their own"; 02, W-201: the counter width; W-205: two radii, and with
--- them the twist.
+-- them the twist; W-206: the radians per tick by themselves.
 use Prim.Native.Nat.{ℕ}
 use mathlib.Core.Bool.{Bool, not, _&&_, _||_}
 use mathlib.Core.List.{[], _∷_}
@@ -78,17 +78,21 @@ jacobianAsked d =
 
 -- ---- rates
 
--- "difference as f64, times (TAU / ticks per turn), divided by dt"
-unfoldable pub rateFromTicks : DifferentialDrive → ℤ → Float → Float
-rateFromTicks d difference dt = wholeToFloat difference ⊗ (TAU ⊘ d .«ticks_per_revolution») ⊘ dt
+-- "TAU / ticks per turn": 02, W-206, calls it the radians per tick
+unfoldable pub radiansPerTick : DifferentialDrive → Float
+radiansPerTick d = TAU ⊘ d .«ticks_per_revolution»
 
-unfoldable pub ratesFromTicks : DifferentialDrive → ℤ → ℤ → Float → WheelRates
-ratesFromTicks d left right dt = rates (rateFromTicks d left dt) (rateFromTicks d right dt)
+-- "difference as f64, times (TAU / ticks per turn), divided by dt"
+unfoldable pub rateFromTicks : (perTick : Float) → ℤ → Float → Float
+rateFromTicks perTick difference dt = wholeToFloat difference ⊗ perTick ⊘ dt
+
+unfoldable pub ratesFromTicks : (perTick : Float) → ℤ → ℤ → Float → WheelRates
+ratesFromTicks perTick left right dt = rates (rateFromTicks perTick left dt) (rateFromTicks perTick right dt)
 
 -- The step from time 0 to time dt: a refusal that carries times carries these.
 unfoldable pub ratesAsked : DifferentialDrive → ℤ → ℤ → Float → Said WheelRates
 ratesAsked d left right dt =
-    let w = ratesFromTicks d left right dt in
+    let w = ratesFromTicks (radiansPerTick d) left right dt in
     refusal 7 when not (validDrive d) else
     refusal 2 when not (finite dt) else
     refused 3 (dt ∷ +0 ∷ []) when dt <ᶠ +0 else
@@ -105,8 +109,8 @@ abbrev pub counted : DifferentialDrive → ℤ → ℤ → ℤ
 counted d from to = tickDifference (d .«counter_width») from to
 
 -- The rates over the time dt from one reading to the next of its kind. Readings of two kinds are refused before their rates are asked for.
-abbrev pub ratesBetween : DifferentialDrive → Reading → Reading → Float → WheelRates
-ratesBetween d (Ticks left right) (Ticks left′ right′) dt = ratesFromTicks d (counted d left left′) (counted d right right′) dt
-ratesBetween d (AngularVelocity left right) (AngularVelocity left′ right′) dt = meanRates left right left′ right′
-ratesBetween d (Ticks left right) (AngularVelocity left′ right′) dt = rates +0 +0
-ratesBetween d (AngularVelocity left right) (Ticks left′ right′) dt = rates +0 +0
+abbrev pub ratesBetween : DifferentialDrive → (perTick : Float) → Reading → Reading → Float → WheelRates
+ratesBetween d perTick (Ticks left right) (Ticks left′ right′) dt = ratesFromTicks perTick (counted d left left′) (counted d right right′) dt
+ratesBetween d perTick (AngularVelocity left right) (AngularVelocity left′ right′) dt = meanRates left right left′ right′
+ratesBetween d perTick (Ticks left right) (AngularVelocity left′ right′) dt = rates +0 +0
+ratesBetween d perTick (AngularVelocity left right) (Ticks left′ right′) dt = rates +0 +0

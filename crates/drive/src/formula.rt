@@ -1,13 +1,11 @@
-// The formula alone, for a caller that has tested its input: twist, rates and rate noise of any drive, noise and readings. The entries that refuse are
+// The formula alone, for a caller that has tested its input: twist, its columns and rates of any drive and readings. The entries that refuse are
 // `DifferentialDrive::twist`, `twist_jacobian` and `wheel_rates_from_ticks`.
 ghost use mathlib.Core.Path.{_≡_};
-ghost use Rattle.drive.specs.Drive.{columnsOf, meanRates, rateFromTicks, ratesBetween, ratesFromTicks, twistOf};
-ghost use Rattle.drive.specs.Noise.{besideZero, rateNoise};
+ghost use Rattle.drive.specs.Drive.{columnsOf, meanRates, radiansPerTick, rateFromTicks, ratesBetween, ratesFromTicks, twistOf};
 use crate::BodyTwist;
 use crate::DifferentialDrive;
 use crate::Reading;
 use crate::TwistColumns;
-use crate::WheelNoise;
 use crate::WheelRates;
 use number::TAU;
 
@@ -25,7 +23,7 @@ pub fn twist_of(drive: DifferentialDrive, w: WheelRates) -> BodyTwist
 }
 
 // How the twist moves with each rate: the same at all rates.
-pub(crate) fn columns(drive: DifferentialDrive) -> TwistColumns
+pub fn columns(drive: DifferentialDrive) -> TwistColumns
     ensures { λ r. ⌜ r ≡ columnsOf drive ⌝ }
 {
     TwistColumns {
@@ -42,36 +40,44 @@ pub(crate) fn columns(drive: DifferentialDrive) -> TwistColumns
     }
 }
 
-fn rate_from_ticks(drive: DifferentialDrive, difference: i64, dt: f64) -> f64
-    ensures { λ r. ⌜ r ≡ rateFromTicks drive difference dt ⌝ }
+// How far a wheel turns from one encoder count to the next.
+pub fn radians_per_tick(drive: DifferentialDrive) -> f64
+    ensures { λ r. ⌜ r ≡ radiansPerTick drive ⌝ }
 {
-    number::whole_to_f64(difference) * (TAU / drive.ticks_per_revolution) / dt
+    TAU / drive.ticks_per_revolution
 }
 
-pub(crate) fn rates_from_ticks(
-    drive: DifferentialDrive,
-    left: i64,
-    right: i64,
-    dt: f64,
-) -> WheelRates
-    ensures { λ r. ⌜ r ≡ ratesFromTicks drive left right dt ⌝ }
+fn rate_from_ticks(per_tick: f64, difference: i64, dt: f64) -> f64
+    ensures { λ r. ⌜ r ≡ rateFromTicks «per_tick» difference dt ⌝ }
+{
+    number::whole_to_f64(difference) * per_tick / dt
+}
+
+pub(crate) fn rates_from_ticks(per_tick: f64, left: i64, right: i64, dt: f64) -> WheelRates
+    ensures { λ r. ⌜ r ≡ ratesFromTicks «per_tick» left right dt ⌝ }
 {
     WheelRates {
-        left: rate_from_ticks(drive, left, dt),
-        right: rate_from_ticks(drive, right, dt),
+        left: rate_from_ticks(per_tick, left, dt),
+        right: rate_from_ticks(per_tick, right, dt),
     }
 }
 
 // The rates over the dt seconds from one reading to the next of its kind: ticks give the mean rates exactly, angular velocities are averaged.
-pub fn rates_between(drive: DifferentialDrive, from: Reading, to: Reading, dt: f64) -> WheelRates
-    ensures { λ r. ⌜ r ≡ ratesBetween drive from to dt ⌝ }
+pub fn rates_between(
+    drive: DifferentialDrive,
+    per_tick: f64,
+    from: Reading,
+    to: Reading,
+    dt: f64,
+) -> WheelRates
+    ensures { λ r. ⌜ r ≡ ratesBetween drive «per_tick» from to dt ⌝ }
 {
     match from {
         Reading::Ticks(left, right) => match to {
             Reading::Ticks(l, r) => {
                 let dl = number::tick_difference(drive.counter_width, left, l);
                 let dr = number::tick_difference(drive.counter_width, right, r);
-                rates_from_ticks(drive, dl, dr, dt)
+                rates_from_ticks(per_tick, dl, dr, dt)
             }
             Reading::AngularVelocity(_, _) => WheelRates {
                 left: 0.0,
@@ -96,24 +102,4 @@ fn mean_rates(left: f64, right: f64, l: f64, r: f64) -> WheelRates
         left: 0.5 * (left + l),
         right: 0.5 * (right + r),
     }
-}
-
-// The covariance per second of the twist: J · Jᵀ · σ², and the side-slip.
-pub fn rate_noise(noise: WheelNoise, drive: DifferentialDrive) -> [f64; 9]
-    ensures { λ r. ⌜ r ≡ rateNoise drive noise ⌝ }
-{
-    let j = beside_zero(columns(drive));
-    let wheel = noise.wheel_rate * noise.wheel_rate;
-    let lateral = noise.lateral_velocity * noise.lateral_velocity;
-    let turned = mat3::scaled(mat3::product(j, mat3::transpose(j)), wheel);
-    mat3::sum(turned, mat3::diagonal(0.0, lateral, 0.0))
-}
-
-// The two columns, and a third of zeros.
-fn beside_zero(c: TwistColumns) -> [f64; 9]
-    ensures { λ r. ⌜ r ≡ besideZero c ⌝ }
-{
-    let l = c.left;
-    let r = c.right;
-    [l.vx, l.vy, l.wz, r.vx, r.vy, r.wz, 0.0, 0.0, 0.0]
 }

@@ -89,7 +89,8 @@ impl DifferentialDrive {
         if dt == 0.0 {
             return Rated::Refused(Refusal::Duplicate(dt));
         }
-        let w = formula::rates_from_ticks(self, left, right, dt);
+        let per_tick = formula::radians_per_tick(self);
+        let w = formula::rates_from_ticks(per_tick, left, right, dt);
         if !(number::is_finite(w.left) & number::is_finite(w.right)) {
             return Rated::Refused(Refusal::NonFinite);
         }

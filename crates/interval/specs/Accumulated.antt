@@ -4,8 +4,7 @@ use Rattle.number.specs.Float.{_⊕_, finite}
 use Rattle.number.specs.Constants.{zero as +0}
 use Rattle.planar.specs.Motion.{identity, finiteMotion}
 use Rattle.planar.specs.Compose.{composed}
-use Rattle.drive.specs.declared.DifferentialDrive.{DifferentialDrive}
-use Rattle.drive.specs.declared.WheelNoise.{WheelNoise}
+use Rattle.kept.specs.declared.KeptValues.{KeptValues}
 use Rattle.interval.specs.declared.Accumulated.{Accumulated}
 use Rattle.interval.specs.declared.Interval.{Interval}
 use Rattle.interval.specs.Interval.{intervalMotion}
@@ -19,5 +18,5 @@ unfoldable pub finiteAccumulated : Accumulated → Bool
 finiteAccumulated a = finiteMotion (a .motion) && finite (a .dt)
 
 -- "then the stored motion with the result", and "the new total dt"
-unfoldable pub advanced : Accumulated → DifferentialDrive → WheelNoise → Interval → Accumulated
-advanced a d n i = record { motion = composed (a .motion) (intervalMotion d n i); dt = a .dt ⊕ i .dt }
+unfoldable pub advanced : Accumulated → KeptValues → Interval → Accumulated
+advanced a kept i = record { motion = composed (a .motion) (intervalMotion kept i); dt = a .dt ⊕ i .dt }

@@ -2,7 +2,7 @@
 pub mod Steps
 pub mod Chains
 pub mod Lists
-mod Kept
+mod Invariant
 pub mod SoFar
 pub mod Theorem
 pub mod Example

@@ -6,6 +6,7 @@ use drive::DifferentialDrive;
 use drive::WheelMeasurement;
 use drive::WheelNoise;
 use interval::Accumulated;
+use kept::KeptValues;
 use step_order::Outcome;
 
 // The last reading that was taken, where the next interval starts.
@@ -20,8 +21,10 @@ pub struct Settings {
     pub noise: WheelNoise,
 }
 
+// The kept values are those of the settings, unless a state with others is handed in.
 pub struct WheelPreintegration {
     pub settings: Settings,
+    pub kept: KeptValues,
     pub accumulated: Accumulated,
     pub last: Last,
 }

@@ -4,7 +4,7 @@ ghost use mathlib.Core.Path.{_≡_};
 ghost use Rattle.number.specs.Said.{accepts, told};
 ghost use Rattle.drive.specs.Refusals.{saidRefusal};
 ghost use Rattle.wheel.specs.Answers.{toldAnswer};
-ghost use Rattle.wheel.specs.Integrator.{blank as blankOf, fresh as freshOf, makeOf, moved as movedOf, restarted};
+ghost use Rattle.wheel.specs.Integrator.{afresh as afreshOf, begun as begunOf, blank as blankOf, changeOf, makeOf, moved as movedOf, restarted};
 use crate::Answer;
 use crate::Last;
 use crate::Settings;
@@ -14,6 +14,8 @@ use drive::Refusal;
 use drive::WheelMeasurement;
 use drive::WheelNoise;
 use interval::Accumulated;
+use kept::KeptValues;
+use kept::kept_of;
 use planar::PlanarMotion;
 use step_order::Outcome;
 
@@ -30,7 +32,7 @@ impl WheelPreintegration {
         }
         Answer {
             outcome: Outcome::Accepted,
-            state: fresh(Settings { drive, noise }),
+            state: afresh(Settings { drive, noise }, Last::Nothing),
         }
     }
 
@@ -61,11 +63,28 @@ impl WheelPreintegration {
     pub fn restart(self) -> WheelPreintegration
         ensures { λ r. ⌜ r ≡ restarted self ⌝ }
     {
-        let kept = self.last;
-        WheelPreintegration {
-            accumulated: Accumulated::NONE,
-            last: kept,
-            ..self
+        let settings = self.settings;
+        let kept = self.kept;
+        let last = self.last;
+        begun(settings, kept, last)
+    }
+
+    // Another drive, of the same counter width, and another noise, between walks: a restart that takes them. The last reading is the new start.
+    pub fn change(self, drive: DifferentialDrive, noise: WheelNoise) -> Answer
+        ensures { λ r. ⌜ toldAnswer r ≡ changeOf self drive noise ⌝ }
+    {
+        let settings = self.settings;
+        let now = settings.drive;
+        if !noise.is_valid() {
+            return self.refused(Refusal::InvalidNoise);
+        }
+        if !(drive.is_valid() & (drive.counter_width == now.counter_width)) {
+            return self.refused(Refusal::InvalidKinematics);
+        }
+        let start = self.last;
+        Answer {
+            outcome: Outcome::Accepted,
+            state: afresh(Settings { drive, noise }, start),
         }
     }
 
@@ -95,23 +114,34 @@ impl WheelPreintegration {
     }
 }
 
-fn fresh(settings: Settings) -> WheelPreintegration
-    ensures { λ r. ⌜ r ≡ freshOf settings ⌝ }
+// With nothing accumulated.
+fn begun(settings: Settings, kept: KeptValues, last: Last) -> WheelPreintegration
+    ensures { λ r. ⌜ r ≡ begunOf settings kept last ⌝ }
 {
     WheelPreintegration {
         settings,
+        kept,
         accumulated: Accumulated::NONE,
-        last: Last::Nothing,
+        last,
     }
+}
+
+// The same, with the values to keep worked out.
+fn afresh(settings: Settings, last: Last) -> WheelPreintegration
+    ensures { λ r. ⌜ r ≡ begunOf settings (afreshOf settings) last ⌝ }
+{
+    let kept = kept_of(settings.drive, settings.noise);
+    begun(settings, kept, last)
 }
 
 // Stands where there is no state.
 fn blank(refusal: Refusal) -> Answer
     ensures { λ r. ⌜ toldAnswer r ≡ told (saidRefusal refusal) blankOf ⌝ }
 {
-    let state = fresh(Settings {
+    let settings = Settings {
         drive: DifferentialDrive::BLANK,
         noise: WheelNoise::BLANK,
-    });
+    };
+    let state = begun(settings, KeptValues::BLANK, Last::Nothing);
     state.refused(refusal)
 }

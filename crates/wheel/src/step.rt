@@ -31,19 +31,19 @@ impl WheelPreintegration {
     }
 
     fn step_from(self, last: WheelMeasurement, m: WheelMeasurement) -> Answer
-        ensures { λ r. ⌜ toldAnswer r ≡ stepFrom self last m ⌝ }
+        ensures { λ r. ⌜ toldAnswer r ≡ stepFrom (self .kept) self last m ⌝ }
     {
         let settings = self.settings;
-        let drive = settings.drive;
+        let kept = self.kept;
         let stored = self.accumulated;
         let motion = stored.motion;
         let delta = motion.delta;
-        let i = interval_of(drive, last, m);
+        let i = interval_of(settings.drive, kept, last, m);
         let fit = step_order::interval_fits(delta[2], last, m, i);
         if let Outcome::Refused(why) = fit {
             return self.refused(why);
         }
-        let accumulated = advanced(stored, drive, settings.noise, i);
+        let accumulated = advanced(stored, kept, i);
         if !accumulated.is_finite() {
             return self.refused(Refusal::NonFinite);
         }

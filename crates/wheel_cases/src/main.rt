@@ -13,10 +13,16 @@
 //    9  the rates of two differences of ticks over a time
 //   10  the Jacobian
 //   11  the stored motion composed with another: three numbers and the nine of a covariance
+//   12  change the drive and the noise: as in 2
+//   13  a run: the bytes of eight events, and eight bytes more, which are no event
 //
-// A line of 2 to 6 has what became of the call (0, or the refusal's number and the times that it carries) and the state as in 7; one of 7 has the state; one of 8
-// to 11 has what became of the call and the answer, and beside a refused composition the motion that is blank by contract. A kind 100 higher is the same,
-// with motions and twists held against the Rust's: place, heading and covariance, and the forward speed and the yaw rate, each stand behind a tolerance.
+// A line of 2 to 6 and of 12 has what became of the call (0, or the refusal's number and the times that it carries) and the state as in 7; one of 7 has the state;
+// one of 13 has how many readings were accepted and the state; one of 8 to 11 has what became of the call and the answer, and beside a refused composition the
+// motion that is blank by contract.
+//
+// A kind 100 higher is the same, with motions and twists held against the Rust's: place, heading and covariance, and the forward speed and the yaw rate, each
+// stand behind a tolerance. A kind 200 higher is the same, with the kept values in a state, behind its noise: the nine numbers of the rate noise and the radians
+// per tick. The Rust keeps none, so that otherwise none stand there, and those of a state that is handed in are worked out.
 use drive::BodyTwist;
 use drive::DifferentialDrive;
 use drive::Jacobian;
@@ -27,6 +33,7 @@ use drive::Twisted;
 use drive::WheelMeasurement;
 use drive::WheelNoise;
 use interval::Accumulated;
+use kept::KeptValues;
 use planar::PlanarMotion;
 use step_order::Outcome;
 use wheel::Last;
@@ -44,19 +51,22 @@ fn main() {
             return;
         }
         cases::print_word(kind);
-        state = after_record(kind % 100, state);
+        state = after_record(kind, state);
         print_after(kind, state);
         cases::end_line();
         turns -= 1;
     }
 }
 
-fn after_record(call: u64, before: WheelPreintegration) -> WheelPreintegration {
+fn after_record(kind: u64, before: WheelPreintegration) -> WheelPreintegration {
+    let call = kind % 100;
     match call {
         2 | 3 => begun(call),
         4 | 5 => stepped(call, before),
         6 => restarted(before),
-        7 => read_state(),
+        7 => read_state(kind),
+        12 => changed(before),
+        13 => ran(before),
         _ => before,
     }
 }
@@ -64,7 +74,7 @@ fn after_record(call: u64, before: WheelPreintegration) -> WheelPreintegration {
 fn print_after(kind: u64, state: WheelPreintegration) {
     let call = kind % 100;
     let settings = state.settings;
-    if (call < 2) | (7 < call) {
+    if (call < 2) | (7 < call) & (call < 12) {
         return ask(kind, settings.drive, state.motion());
     }
     print_state(kind, state)
@@ -90,6 +100,22 @@ fn stepped(call: u64, before: WheelPreintegration) -> WheelPreintegration {
 fn restarted(before: WheelPreintegration) -> WheelPreintegration {
     cases::print_word(0);
     before.restart()
+}
+
+fn changed(before: WheelPreintegration) -> WheelPreintegration {
+    let drive = read_drive();
+    let answer = before.change(drive, read_noise(2));
+    let outcome = answer.outcome;
+    print_outcome(outcome);
+    answer.state
+}
+
+fn ran(before: WheelPreintegration) -> WheelPreintegration {
+    let mut events = [0u8; 520];
+    cases::read_bytes(&mut events);
+    let ran = runs::run(before, &events);
+    cases::print_word(ran.accepted as u64);
+    ran.state
 }
 
 // ---- what is asked, and leaves the state
@@ -194,16 +220,30 @@ fn read_motion() -> PlanarMotion {
     PlanarMotion { delta, covariance }
 }
 
-fn read_state() -> WheelPreintegration {
+fn read_state(kind: u64) -> WheelPreintegration {
     let drive = read_drive();
     let noise = read_noise(2);
+    let kept = read_kept(kind, drive, noise);
     let motion = read_motion();
     let dt = cases::read_f64();
     let last = read_last(cases::read_word());
     WheelPreintegration {
         settings: Settings { drive, noise },
+        kept,
         accumulated: Accumulated { motion, dt },
         last,
+    }
+}
+
+fn read_kept(kind: u64, drive: DifferentialDrive, noise: WheelNoise) -> KeptValues {
+    if kind < 200 {
+        return kept::kept_of(drive, noise);
+    }
+    let rate_noise = cases::read_nine();
+    let radians_per_tick = cases::read_f64();
+    KeptValues {
+        rate_noise,
+        radians_per_tick,
     }
 }
 
@@ -259,8 +299,10 @@ fn print_refusal(why: Refusal) {
 fn print_state(kind: u64, state: WheelPreintegration) {
     let settings = state.settings;
     let last = state.last;
+    let kept = state.kept;
     print_settings(settings);
-    print_motion(kind, state.motion());
+    print_kept(kind, kept);
+    print_motion(kind % 200, state.motion());
     cases::print_numbers(&[state.dt()]);
     print_last(last);
 }
@@ -278,6 +320,14 @@ fn print_settings(settings: Settings) {
     );
     cases::print_word(d.counter_width);
     cases::print_numbers(&[n.wheel_rate, n.lateral_velocity]);
+}
+
+fn print_kept(kind: u64, kept: KeptValues) {
+    let rate_noise = kept.rate_noise;
+    if 200 <= kind {
+        cases::print_numbers(&rate_noise);
+        cases::print_numbers(&[kept.radians_per_tick]);
+    }
 }
 
 fn print_motion(kind: u64, motion: PlanarMotion) {

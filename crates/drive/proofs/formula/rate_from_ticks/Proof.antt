@@ -11,8 +11,8 @@ whole-to-f64-requires c κs = search needs
 returns : tie.Need-returns
 unfolding rateFromTicks
 returns c =
-    let start = c .before .before in
-    rw (c .before .whole-to-f64 .ensures, toZ-ofZ w64 (start .args .difference) (start .fits .difference))
+    let start = c .before in
+    rw (c .whole-to-f64 .ensures, toZ-ofZ w64 (start .args .difference) (start .fits .difference))
 
 pub rate-from-ticks-spec : {M : Type 1} → statement M
 rate-from-ticks-spec = tie.close (tie.spec whole-to-f64-requires returns)

@@ -55,7 +55,7 @@ returns c =
     let right : toZ w64 (ofZ w64 (dr .result)) ≡ counted drive (from .0 .1 .0) (to .0 .1 .0) =
     toZ-ofZ w64 (dr .result) (record { sfits = dr .ok }) ∙ dr .ensures ∙ (λ i. counted drive (fr i) (tr i))
     in
-    simp (from .1, to .1) (c .rates-from-ticks .ensures ∙ (λ i. ratesFromTicks drive (left i) (right i) (start .before .before .args .dt)))
+    simp (from .1, to .1) (c .rates-from-ticks .ensures ∙ (λ i. ratesFromTicks (start .before .before .args .per-tick) (left i) (right i) (start .before .before .args .dt)))
 
 returns-2 : tie.Need-returns-2
 returns-2 c = simp (c .before .before .before .from .given .1, c .enum-told .given .1)

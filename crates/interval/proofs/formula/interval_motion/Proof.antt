@@ -4,9 +4,6 @@ use borrow.Author.Needs.{needs}
 use Rattle.interval.proofs.formula.interval_motion.Statement.{statement}
 use Rattle.interval.proofs.formula.interval_motion.Tie as tie
 
-rate-noise-requires : tie.Need-rate-noise-requires
-rate-noise-requires c κs = search needs
-
 scaled-requires : tie.Need-scaled-requires
 scaled-requires c κs = search needs
 
@@ -18,13 +15,12 @@ doubled-requires c κs = search needs
 
 returns : tie.Need-returns
 unfolding intervalMotion
-returns c = rw (c .doubled .ensures, c .before .from-twist-increment .ensures, c .before .before .before .before .before .scaled .ensures, c .before .before .before .before .before .before .rate-noise .ensures)
+returns c = rw (c .doubled .ensures, c .before .from-twist-increment .ensures, c .before .before .before .before .before .scaled .ensures)
 
 pub interval-motion-spec : {M : Type 1} → statement M
 interval-motion-spec =
     tie.close
     (tie.spec
-    rate-noise-requires
     scaled-requires
     from-twist-increment-requires
     doubled-requires

@@ -25,12 +25,12 @@ returns-2 : tie.Need-returns-2
 unfolding makeOf
 returns-2 c = c .blank2 .ensures ∙ rw (sym (c .before .before .before .before .is-valid .ensures), c .before .before .before .if1 .left, sym (c .before .before .is-valid2 .ensures), c .before .if2 .taken)
 
-fresh-requires : tie.Need-fresh-requires
-fresh-requires c κs = search needs
+afresh-requires : tie.Need-afresh-requires
+afresh-requires c κs = search needs
 
 returns-3 : tie.Need-returns-3
 unfolding makeOf
-returns-3 c = rw (sym (c .before .before .before .before .is-valid .ensures), c .before .before .before .if1 .left, sym (c .before .before .is-valid2 .ensures), c .before .if2 .left, c .fresh .ensures)
+returns-3 c = rw (sym (c .before .before .before .before .is-valid .ensures), c .before .before .before .if1 .left, sym (c .before .before .is-valid2 .ensures), c .before .if2 .left, c .afresh .ensures)
 
 pub new-spec : {M : Type 1} → statement M
 new-spec =
@@ -42,5 +42,5 @@ new-spec =
     is-valid-requires-2
     blank-requires-2
     returns-2
-    fresh-requires
+    afresh-requires
     returns-3)

@@ -1,7 +1,7 @@
-use Rattle.drive.specs.Noise.{rateNoise}
+use Rattle.kept.specs.Kept.{rateNoise}
 use borrow.Author.Needs.{needs}
-use Rattle.drive.proofs.formula.rate_noise.Statement.{statement}
-use Rattle.drive.proofs.formula.rate_noise.Tie as tie
+use Rattle.kept.proofs.rate_noise.Statement.{statement}
+use Rattle.kept.proofs.rate_noise.Tie as tie
 
 columns-requires : tie.Need-columns-requires
 columns-requires c κs = search needs
