@@ -1,0 +1,2 @@
+-- What the fixture stores.
+pub mod Fixture
