@@ -1,10 +1,11 @@
 -- 01, The wheel step: what an integrator accumulates, from nothing, interval by interval.
 use mathlib.Core.Bool.{Bool, _&&_}
+use mathlib.Core.List.{List}
+use lib.Ieee.{Float}
 use Rattle.number.specs.Float.{_⊕_, finite}
 use Rattle.number.specs.Constants.{zero as +0}
 use Rattle.planar.specs.Motion.{identity, finiteMotion}
 use Rattle.planar.specs.Compose.{composed}
-use Rattle.kept.specs.declared.KeptValues.{KeptValues}
 use Rattle.interval.specs.declared.Accumulated.{Accumulated}
 use Rattle.interval.specs.declared.Interval.{Interval}
 use Rattle.interval.specs.Interval.{intervalMotion}
@@ -18,5 +19,5 @@ unfoldable pub finiteAccumulated : Accumulated → Bool
 finiteAccumulated a = finiteMotion (a .motion) && finite (a .dt)
 
 -- "then the stored motion with the result", and "the new total dt"
-unfoldable pub advanced : Accumulated → KeptValues → Interval → Accumulated
-advanced a kept i = record { motion = composed (a .motion) (intervalMotion kept i); dt = a .dt ⊕ i .dt }
+unfoldable pub advanced : Accumulated → (rateNoise : List Float) → Interval → Accumulated
+advanced a rateNoise i = record { motion = composed (a .motion) (intervalMotion rateNoise i); dt = a .dt ⊕ i .dt }

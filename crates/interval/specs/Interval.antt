@@ -1,5 +1,6 @@
--- 01, The wheel step: what is worked out of two readings, and the motion between them. 02, W-206: the rate noise and the radians per tick are kept values.
+-- 01, The wheel step: what is worked out of two readings, and the motion between them. The radians per tick and the rate noise are handed in: 02, W-206, has them kept.
 use Prim.Native.Nat.{ℕ, zero, suc}
+use mathlib.Core.List.{List}
 use lib.Ieee.{Float}
 use Rattle.number.specs.Float.{_⊖_, _⊗_, _⊘_, size, larger}
 use Rattle.number.specs.Constants.{c0·01, c0·02}
@@ -11,7 +12,6 @@ use Rattle.planar.specs.declared.PlanarMotion.{PlanarMotion}
 use Rattle.drive.specs.declared.DifferentialDrive.{DifferentialDrive}
 use Rattle.drive.specs.declared.WheelMeasurement.{WheelMeasurement}
 use Rattle.drive.specs.Drive.{twistOf, ratesBetween}
-use Rattle.kept.specs.declared.KeptValues.{KeptValues}
 use Rattle.interval.specs.declared.Interval.{Interval}
 
 -- "Ratio: the larger of dt/0.01 and |wz·dt|/0.02, a NaN angle being passed over."
@@ -19,10 +19,10 @@ unfoldable pub ratioOf : Float → Float → Float
 ratioOf dt wz = larger (dt ⊘ c0·01) (size (wz ⊗ dt) ⊘ c0·02)
 
 -- the twist between the readings, k the halving count of its ratio, "h = dt/2^k", and wz·h
-unfoldable pub intervalOf : DifferentialDrive → KeptValues → WheelMeasurement → WheelMeasurement → Interval
-intervalOf d kept last m =
+unfoldable pub intervalOf : DifferentialDrive → (perTick : Float) → WheelMeasurement → WheelMeasurement → Interval
+intervalOf d perTick last m =
     let dt = m .timestamp ⊖ last .timestamp in
-    let v = twistOf d (ratesBetween d (kept .«radians_per_tick») (last .reading) (m .reading) dt) in
+    let v = twistOf d (ratesBetween d perTick (last .reading) (m .reading) dt) in
     let k = halvingCount (ratioOf dt (v .wz)) in
     let h = dt ⊘ power k in
     record { dt = dt; twist = v; halvings = k; substep = h; angle = v .wz ⊗ h }
@@ -33,8 +33,8 @@ doubled zero p = p
 doubled (suc k) p = doubled k (composed p p)
 
 -- "One increment by `se2_exp` of (vx·h, vy·h, wz·h), its covariance Jac·(rate noise·h)·Jacᵀ; then k times the motion is composed with itself"
-unfoldable pub intervalMotion : KeptValues → Interval → PlanarMotion
-intervalMotion kept i =
+unfoldable pub intervalMotion : (rateNoise : List Float) → Interval → PlanarMotion
+intervalMotion rateNoise i =
     let v = i .twist in
     let h = i .substep in
-    doubled (i .halvings) (incrementOf (v .vx ⊗ h) (v .vy ⊗ h) (v .wz ⊗ h) (scaled (kept .«rate_noise») h))
+    doubled (i .halvings) (incrementOf (v .vx ⊗ h) (v .vy ⊗ h) (v .wz ⊗ h) (scaled rateNoise h))

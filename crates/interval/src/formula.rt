@@ -12,22 +12,21 @@ use drive::DifferentialDrive;
 use drive::WheelMeasurement;
 use drive::formula::rates_between;
 use drive::formula::twist_of;
-use kept::KeptValues;
 use planar::PlanarMotion;
 use planar::formula::composed;
 
 pub fn interval_of(
     drive: DifferentialDrive,
-    kept: KeptValues,
+    per_tick: f64,
     last: WheelMeasurement,
     m: WheelMeasurement,
 ) -> Interval
-    ensures { λ r. ⌜ r ≡ intervalOf drive kept last m ⌝ }
+    ensures { λ r. ⌜ r ≡ intervalOf drive «per_tick» last m ⌝ }
 {
     let from = last.reading;
     let to = m.reading;
     let dt = m.timestamp - last.timestamp;
-    let rates = rates_between(drive, kept.radians_per_tick, from, to, dt);
+    let rates = rates_between(drive, per_tick, from, to, dt);
     let twist = twist_of(drive, rates);
     let cut = number::halvings(ratio(dt, twist.wz));
     let substep = dt / cut.parts;
@@ -52,13 +51,12 @@ fn ratio(dt: f64, wz: f64) -> f64
 
 // The motion over all substeps. Mapping a whole interval's noise through one exponential Jacobian would treat it as a constant perturbation and lose
 // the variance that white noise builds up along a turn; the two halves' noise is independent.
-fn interval_motion(kept: KeptValues, i: Interval) -> PlanarMotion
-    ensures { λ r. ⌜ r ≡ intervalMotion kept i ⌝ }
+fn interval_motion(rate_noise: [f64; 9], i: Interval) -> PlanarMotion
+    ensures { λ r. ⌜ r ≡ intervalMotion «rate_noise» i ⌝ }
 {
     let v = i.twist;
     let h = i.substep;
-    let noise = kept.rate_noise;
-    let q = mat3::scaled(noise, h);
+    let q = mat3::scaled(rate_noise, h);
     doubled(
         from_twist_increment(v.vx * h, v.vy * h, v.wz * h, q),
         i.halvings,
@@ -79,11 +77,11 @@ fn doubled(p: PlanarMotion, k: u32) -> PlanarMotion
 }
 
 // What is accumulated with one interval more.
-pub fn advanced(a: Accumulated, kept: KeptValues, i: Interval) -> Accumulated
-    ensures { λ r. ⌜ r ≡ advancedOf a kept i ⌝ }
+pub fn advanced(a: Accumulated, rate_noise: [f64; 9], i: Interval) -> Accumulated
+    ensures { λ r. ⌜ r ≡ advancedOf a «rate_noise» i ⌝ }
 {
     let stored = a.motion;
-    let motion = composed(stored, interval_motion(kept, i));
+    let motion = composed(stored, interval_motion(rate_noise, i));
     let dt = a.dt + i.dt;
     Accumulated { motion, dt }
 }

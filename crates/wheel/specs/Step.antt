@@ -21,10 +21,10 @@ unlessRefused (gives u) s next = next
 
 -- the interval from the last reading to m, and what is accumulated with it
 abbrev pub intervalBy : KeptValues → WheelPreintegration → (last m : WheelMeasurement) → Interval
-intervalBy kept s last m = intervalOf (s .settings .drive) kept last m
+intervalBy kept s last m = intervalOf (s .settings .drive) (kept .«radians_per_tick») last m
 
 abbrev pub advancedBy : KeptValues → WheelPreintegration → (last m : WheelMeasurement) → Accumulated
-advancedBy kept s last m = advanced (s .accumulated) kept (intervalBy kept s last m)
+advancedBy kept s last m = advanced (s .accumulated) (kept .«rate_noise») (intervalBy kept s last m)
 
 unfoldable pub stepFrom : KeptValues → WheelPreintegration → (last m : WheelMeasurement) → Told WheelPreintegration
 stepFrom kept s last m =

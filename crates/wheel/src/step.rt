@@ -35,15 +35,16 @@ impl WheelPreintegration {
     {
         let settings = self.settings;
         let kept = self.kept;
+        let rate_noise = kept.rate_noise;
         let stored = self.accumulated;
         let motion = stored.motion;
         let delta = motion.delta;
-        let i = interval_of(settings.drive, kept, last, m);
+        let i = interval_of(settings.drive, kept.radians_per_tick, last, m);
         let fit = step_order::interval_fits(delta[2], last, m, i);
         if let Outcome::Refused(why) = fit {
             return self.refused(why);
         }
-        let accumulated = advanced(stored, kept, i);
+        let accumulated = advanced(stored, rate_noise, i);
         if !accumulated.is_finite() {
             return self.refused(Refusal::NonFinite);
         }
