@@ -35,6 +35,7 @@ fn compare(ours: &Ours, seed: u64) {
         wheel::runs(ours, "tame wheel walks", &wheel::tame_runs(&mut random(2), Radii::One)),
         wheel::runs(ours, "wheel runs of two radii over the whole domain", &wheel::domain_runs(&mut random(18), Radii::Two)),
         wheel::runs(ours, "tame wheel walks of two radii", &wheel::tame_runs(&mut random(19), Radii::Two)),
+        wheel::runs(ours, "wheel runs with changes of drive and noise", &wheel::changing_runs(&mut random(20))),
         wheel::runs(ours, "wheel runs that turn as far as they may", &wheel::spinning_runs(&mut random(13))),
         wheel::runs_by_both(ours, "wheel runs of whole turns", &wheel::turning_runs(&mut random(14))),
         wheel::asked(ours, &mut random(3)),

@@ -43,12 +43,13 @@ impl Group {
         *self.left_out.entry(why).or_default() += 1;
     }
 
-    /// Counts an answer: a restart, or by its refusal.
-    pub fn tally(&mut self, is_restart: bool, refusal: u64) {
-        let answer = match refusal {
-            _ if is_restart => "restarts".into(),
-            0 => "accepted".into(),
-            n => format!("refused {n}"),
+    /// Counts an answer, by its refusal and by what was asked, unless that was a reading.
+    pub fn tally(&mut self, what: &str, refusal: u64) {
+        let answer = match (what, refusal) {
+            ("", 0) => "accepted".into(),
+            ("", n) => format!("refused {n}"),
+            (what, 0) => what.into(),
+            (what, n) => format!("{what} refused {n}"),
         };
         *self.answers.entry(answer).or_default() += 1;
     }

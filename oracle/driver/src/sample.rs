@@ -6,7 +6,7 @@ use crate::inertial::{self, Style, TAME, domain_style, near_bias, window, world}
 use crate::ours::{Records, line, words};
 use crate::random::Random;
 use crate::report::TOLERANCE;
-use crate::wheel::{Asked, Radii, Yardstick, composition, domain_run, motion, tame_run};
+use crate::wheel::{Asked, Radii, Yardstick, changing_domain_run, changing_tame_run, composition, domain_run, motion, tame_run};
 use std::path::Path;
 
 /// How many samples a batch and a window have.
@@ -87,6 +87,12 @@ pub fn write(folder: &Path) -> std::io::Result<()> {
     for n in 0..16 {
         let length = 1 + two_radii.below(12);
         let run = if n < 12 { domain_run(&mut two_radii, length, Radii::Two) } else { tame_run(&mut two_radii, 60, Radii::Two) };
+        wheel.add(run.without_refused_8().calls(Yardstick::Own));
+    }
+    let mut changing = Random(22);
+    for n in 0..24 {
+        let radii = if n % 2 == 0 { Radii::One } else { Radii::Two };
+        let run = if n < 18 { changing_domain_run(&mut changing, 20, radii) } else { changing_tame_run(&mut changing, 60, radii) };
         wheel.add(run.without_refused_8().calls(Yardstick::Own));
     }
     for n in 0..20 {

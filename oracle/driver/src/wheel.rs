@@ -95,6 +95,8 @@ pub const UNIT: DifferentialDrive = DifferentialDrive { wheel_radius: 1.0, track
 /// What the Rust said to one record, and its state after it.
 struct Seen {
     event: Event,
+    /// The drive and the noise after it, in words of ours.
+    settings: Vec<u64>,
     /// The refusal and what it carries, or 0.
     said: Vec<u64>,
     motion: PlanarMotion,
@@ -104,15 +106,18 @@ struct Seen {
     way: (f64, f64),
 }
 
-#[derive(Clone, Copy, PartialEq)]
 enum Event {
     Reading(WheelMeasurement),
     /// A reading that the added refusal 8 keeps from the Rust.
     Refused8(WheelMeasurement),
     Restart,
+    /// 02's change of drive and noise (W-206), with these in words of ours.
+    Change(Vec<u64>),
 }
 
 pub struct Run {
+    /// What it is made with.
+    made: (Cart, WheelNoise),
     cart: Cart,
     noise: WheelNoise,
     seen: Vec<Seen>,
@@ -179,11 +184,12 @@ fn is_near_power(ratio: f64) -> bool {
 impl Run {
     fn new(cart: Cart, noise: WheelNoise) -> (Self, Integrator) {
         let rust = Integrator::new(cart, noise).expect("fit");
-        (Self { cart, noise, seen: vec![], left_out: vec![] }, rust)
+        (Self { made: (cart, noise), cart, noise, seen: vec![], left_out: vec![] }, rust)
     }
 
     fn saw(&mut self, event: Event, said: Vec<u64>, rust: &Integrator, way: (f64, f64)) {
-        self.seen.push(Seen { way, event, said, motion: *rust.motion(), dt: rust.dt(), last: rust.last().copied() });
+        let settings = settings_words(&self.cart, &self.noise);
+        self.seen.push(Seen { way, event, settings, said, motion: *rust.motion(), dt: rust.dt(), last: rust.last().copied() });
     }
 
     /// Why an interval is not compared, where the two twists are not the same.
@@ -232,6 +238,24 @@ impl Run {
         rust.restart();
         self.saw(Event::Restart, vec![0], rust, (0.0, 0.0));
     }
+
+    /// The Rust has no such call. What does for it is what demand 3 says of one: an integrator that is made with the new drive and noise and is
+    /// fed the last reading; or, where the making is refused, the one that was there.
+    fn change(&mut self, cart: Cart, noise: WheelNoise, rust: &mut Integrator) {
+        let event = Event::Change(settings_words(&cart, &noise));
+        let said = match Integrator::new(cart, noise) {
+            Ok(mut fresh) => {
+                if let Some(last) = rust.last() {
+                    fresh.integrate(last).expect("it was accepted before");
+                }
+                *rust = fresh;
+                (self.cart, self.noise) = (cart, noise);
+                vec![0]
+            }
+            Err(e) => refusal(e),
+        };
+        self.saw(event, said, rust, (0.0, 0.0));
+    }
 }
 
 // ---- what is drawn
@@ -249,6 +273,8 @@ struct Style {
     is_tame: bool,
     /// The one time step of a run at a nominal rate, or 0.
     nominal: f64,
+    /// The radii of the carts that a run changes to, if it does.
+    changing: Option<Radii>,
 }
 
 fn any_drive(random: &mut Random) -> DifferentialDrive {
@@ -274,10 +300,23 @@ impl Radii {
     }
 }
 
+fn any_noise(random: &mut Random) -> WheelNoise {
+    WheelNoise { wheel_rate: random.any_size(), lateral_velocity: random.any_size() }
+}
+
 pub fn domain_run(random: &mut Random, length: u64, radii: Radii) -> Run {
+    domain_run_with(random, length, radii, None)
+}
+
+/// The same with changes of drive and noise.
+pub fn changing_domain_run(random: &mut Random, length: u64, radii: Radii) -> Run {
+    domain_run_with(random, length, radii, Some(radii))
+}
+
+fn domain_run_with(random: &mut Random, length: u64, radii: Radii, changing: Option<Radii>) -> Run {
     let drive = any_drive(random);
     let cart = radii.cart(random, drive);
-    let noise = WheelNoise { wheel_rate: random.any_size(), lateral_velocity: random.any_size() };
+    let noise = any_noise(random);
     let style = Style {
         is_ticks: random.once_in(2),
         step: random.size(2e-6, (4e6 / length as f64).min(MOST)),
@@ -286,6 +325,7 @@ pub fn domain_run(random: &mut Random, length: u64, radii: Radii) -> Run {
         is_paired: random.once_in(3),
         is_tame: false,
         nominal: 0.0,
+        changing,
     };
     let start = if style.step * length as f64 > 1e6 { -MOST } else { random.any() };
     drawn(random, cart, noise, style, start, length)
@@ -294,9 +334,9 @@ pub fn domain_run(random: &mut Random, length: u64, radii: Radii) -> Run {
 /// A few readings whose time steps, rates and ticks go up to the domain's end.
 fn short_run(random: &mut Random) -> Run {
     let (drive, tick) = (any_drive(random), random.size(1.0, 9.3e18));
-    let noise = WheelNoise { wheel_rate: random.any_size(), lateral_velocity: random.any_size() };
+    let noise = any_noise(random);
     let (is_ticks, is_paired) = (random.once_in(2), random.once_in(2));
-    let style = Style { is_ticks, step: MOST, rate: MOST, tick, is_paired, is_tame: false, nominal: 0.0 };
+    let style = Style { is_ticks, step: MOST, rate: MOST, tick, is_paired, is_tame: false, nominal: 0.0, changing: None };
     let start = if random.once_in(2) { -MOST } else { random.any() };
     drawn(random, drive.into(), noise, style, start, 5)
 }
@@ -305,17 +345,33 @@ pub fn short_runs(random: &mut Random) -> Vec<Run> {
     (0..2000).map(|_| short_run(random)).collect()
 }
 
-pub fn tame_run(random: &mut Random, length: u64, radii: Radii) -> Run {
-    let drive = DifferentialDrive {
+fn tame_drive(random: &mut Random) -> DifferentialDrive {
+    DifferentialDrive {
         wheel_radius: random.between(0.03, 0.3),
         track_width: random.between(0.2, 1.0),
         ticks_per_revolution: random.one_of(&[360.0, 512.0, 1024.0, 4096.0, 8191.5]),
-    };
+    }
+}
+
+fn tame_noise(random: &mut Random) -> WheelNoise {
+    WheelNoise { wheel_rate: random.between(0.0, 0.1), lateral_velocity: random.between(0.0, 0.05) }
+}
+
+pub fn tame_run(random: &mut Random, length: u64, radii: Radii) -> Run {
+    tame_run_with(random, length, radii, None)
+}
+
+pub fn changing_tame_run(random: &mut Random, length: u64, radii: Radii) -> Run {
+    tame_run_with(random, length, radii, Some(radii))
+}
+
+fn tame_run_with(random: &mut Random, length: u64, radii: Radii, changing: Option<Radii>) -> Run {
+    let drive = tame_drive(random);
     let cart = radii.cart(random, drive);
-    let noise = WheelNoise { wheel_rate: random.between(0.0, 0.1), lateral_velocity: random.between(0.0, 0.05) };
+    let noise = tame_noise(random);
     let nominal = random.one_of(&[0.0, 0.0, 0.0, 0.005, 0.01, 0.02, 0.05, 0.16]);
-    let style =
-        Style { is_ticks: random.once_in(2), step: 0.2, rate: 10.0, tick: 500.0, is_paired: random.once_in(2), is_tame: true, nominal };
+    let (is_ticks, is_paired) = (random.once_in(2), random.once_in(2));
+    let style = Style { is_ticks, step: 0.2, rate: 10.0, tick: 500.0, is_paired, is_tame: true, nominal, changing };
     let start = random.between(1.0, 1000.0);
     drawn(random, cart, noise, style, start, length)
 }
@@ -341,6 +397,7 @@ fn drawn(random: &mut Random, cart: Cart, noise: WheelNoise, style: Style, start
             12..16 => run.read(WheelMeasurement { timestamp: earlier(random, time), ..good }, &mut rust),
             16..19 => run.read(reading(random, next, ticks, &Style { is_ticks: !style.is_ticks, ..style }), &mut rust),
             19..21 => run.read(not_finite(random, good), &mut rust),
+            21..29 if style.changing.is_some() => change(random, &style, &mut run, &mut rust),
             _ => {
                 run.read(good, &mut rust);
                 time = next;
@@ -348,6 +405,27 @@ fn drawn(random: &mut Random, cart: Cart, noise: WheelNoise, style: Style, start
         }
     }
     run
+}
+
+/// To a cart as the run's own was drawn; one in four is unfit, by its noise, its drive or both.
+fn change(random: &mut Random, style: &Style, run: &mut Run, rust: &mut Integrator) {
+    let radii = style.changing.expect("it is asked before");
+    let mut drive = if style.is_tame { tame_drive(random) } else { any_drive(random) };
+    let mut noise = if style.is_tame { tame_noise(random) } else { any_noise(random) };
+    let unfit = random.one_of(&[f64::NAN, f64::INFINITY, f64::NEG_INFINITY, -1.0]);
+    let faults = if random.once_in(4) { 1 + random.below(3) } else { 0 };
+    if faults % 2 == 1 {
+        noise.wheel_rate = unfit;
+    }
+    let cart = radii.cart(random, drive);
+    if faults >= 2 {
+        drive.track_width = random.one_of(&[unfit, 0.0]);
+    }
+    let cart = match cart {
+        Cart::OneRadius(_) => Cart::OneRadius(drive),
+        Cart::TwoRadii(_, right) => Cart::TwoRadii(drive, right),
+    };
+    run.change(cart, noise, rust);
 }
 
 /// A later time, 0 or not below the least size.
@@ -472,7 +550,7 @@ impl Run {
 
     /// The beginning, and every event with the whole state after it.
     pub fn calls(&self, by: Yardstick) -> Vec<Call> {
-        let mut calls = vec![begin(self.cart, &self.noise)];
+        let mut calls = vec![begin(self.made.0, &self.made.1)];
         let mut sizes = Sizes::default();
         for s in &self.seen {
             let mut call = match &s.event {
@@ -481,13 +559,19 @@ impl Run {
                     sizes = Sizes::default();
                     Call::unanswered(6, vec![])
                 }
+                Event::Change(words) => {
+                    if s.said == [0] {
+                        sizes = Sizes::default();
+                    }
+                    Call::unanswered(12, words.clone())
+                }
             };
             sizes.reach(&s.motion);
             if by == Yardstick::Widened {
                 sizes.reach_on_the_way(s.way);
             }
             call.answer.push(Part::Same("refusals and their times", s.said.clone()));
-            call.answer.push(Part::Kept(settings_words(&self.cart, &self.noise)));
+            call.answer.push(Part::Kept(s.settings.clone()));
             call.answer.extend(motion_parts(&s.motion, &sizes));
             call.answer.push(Part::Same("dt", words(&[s.dt])));
             call.answer.push(Part::Same("last reading", last_words(s.last)));
@@ -499,7 +583,11 @@ impl Run {
     fn tally(&self, group: &mut Group) {
         for s in &self.seen {
             group.parts.1 += 1;
-            group.tally(s.event == Event::Restart, s.said[0]);
+            match s.event {
+                Event::Restart => group.tally("restarts", 0),
+                Event::Change(_) => group.tally("changes", s.said[0]),
+                _ => group.tally("", s.said[0]),
+            }
             if matches!(s.event, Event::Refused8(_)) {
                 group.leave_out("readings refused by the added 8, not given to the Rust");
             }
@@ -591,6 +679,13 @@ pub fn domain_runs(random: &mut Random, radii: Radii) -> Vec<Run> {
 
 pub fn tame_runs(random: &mut Random, radii: Radii) -> Vec<Run> {
     (0..40).map(|_| tame_run(random, 1000, radii)).collect()
+}
+
+/// With changes of drive and noise, half of them over the whole domain; carts of one radius and of two.
+pub fn changing_runs(random: &mut Random) -> Vec<Run> {
+    let radii = |n: u64| if n % 2 == 0 { Radii::One } else { Radii::Two };
+    let wide: Vec<_> = (0..100).map(|n| changing_domain_run(random, 400, radii(n))).collect();
+    wide.into_iter().chain((0..40).map(|n| changing_tame_run(random, 1000, radii(n)))).collect()
 }
 
 /// The hardest: every interval turns as far as the refusal 8 allows, or nearly, and the same each time, so that what 20 doublings do to a heading
