@@ -10,7 +10,6 @@ use Rattle.drive.specs.declared.DifferentialDrive.{DifferentialDrive}
 use Rattle.drive.specs.declared.WheelNoise.{WheelNoise}
 use Rattle.drive.specs.Drive.{validDrive}
 use Rattle.drive.specs.Noise.{validNoise}
-use Rattle.kept.specs.declared.KeptValues.{KeptValues}
 use Rattle.kept.specs.Kept.{keptOf}
 
 abbrev pub +∞ : Float

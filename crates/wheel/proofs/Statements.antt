@@ -8,7 +8,7 @@ use lib.Dec.{eqb}
 use lib.Ieee.{Float}
 use Rattle.number.specs.Float.{_when_else_}
 use Rattle.number.specs.Said.{Said, gives, refused, Told, accepts, refuses}
-use Rattle.number.proofs.Cases.{refused-not-given, refused-not-accepted}
+use Rattle.number.proofs.Cases.{refused-not-given}
 use Rattle.drive.specs.declared.DifferentialDrive.{DifferentialDrive}
 use Rattle.drive.specs.declared.WheelNoise.{WheelNoise}
 use Rattle.drive.specs.declared.WheelMeasurement.{WheelMeasurement}
@@ -20,9 +20,10 @@ use Rattle.step_order.specs.Order.{intervalFits, readingFits, resultFits}
 use Rattle.wheel.specs.declared.Last.{Last}
 use Rattle.wheel.specs.declared.Last.the-variants.{Nothing, At}
 use Rattle.wheel.specs.declared.WheelPreintegration.{WheelPreintegration}
-use Rattle.wheel.specs.Integrator.{settings, fresh, blank, makeOf, changed, changeOf, moved, Kept}
+use Rattle.wheel.specs.Integrator.{settings, makeOf, changed, changeOf, moved, Kept}
 use Rattle.wheel.specs.Step.{intervalBy, advancedBy, after, stepFrom, stepBy, stepOf, stepAfresh, unlessRefused}
 use Rattle.wheel.specs.Statements.{Statements}
+use Rattle.wheel.proofs.Making.{made}
 
 -- ---- what a call answers: it refuses and the state is s, or it accepts and P holds of the state
 
@@ -96,15 +97,7 @@ module _ (s : WheelPreintegration) (d : DifferentialDrive) (n : WheelNoise) wher
 -- ---- making
 
 kept-made : (d : DifferentialDrive) (n : WheelNoise) (s : WheelPreintegration) → makeOf d n ≡ accepts s → Kept s
-unfolding makeOf
-kept-made d n s = go (validNoise n) (validDrive d)
-  where
-    go : (a b : Bool) → (refuses 6 blank when not a else refuses 7 blank when not b else accepts (fresh (settings d n))) ≡ accepts s → Kept s
-    go true true e =
-        let is : fresh (settings d n) ≡ s = ap (λ (t : Told WheelPreintegration). t .value) e in
-        rw (← is) refl
-    go true false e = absurd (refused-not-accepted 7 blank s e)
-    go false b e = absurd (refused-not-accepted 6 blank s e)
+kept-made d n s e = rw (made d n s e .0) refl
 
 pub statements : Statements
 unfolding stepOf

@@ -1,11 +1,10 @@
 -- `settled_noise` meets its contract: each number is written over with itself. Assumes nothing.
 use mathlib.Core.Path.{_≡_, refl, ap, _∙_}
-use mathlib.Core.List.{List}
 use Prim.Native.Nat.{_-_}
 use native.Mathlib.Omega.{arith}
 use lib.ListN.{set}
 use lib.Seq.{set-getD}
-use lib.Ieee.{Float, nan}
+use lib.Ieee.{nan}
 use Rattle.kept.proofs.settled_noise.Statement.{statement}
 use Rattle.kept.proofs.settled_noise.Tie as tie
 

@@ -1,5 +1,5 @@
 -- `kept_values` meets its contract: what is stored is kept at the end of the run from the integrator that was made. Assumes nothing.
-use mathlib.Core.Path.{_≡_, ap, _∙_}
+use mathlib.Core.Path.{ap, _∙_}
 use lib.ListN.{length}
 use borrow.Author.Needs.{needs}
 use Rattle.number.specs.Said.{Told}
