@@ -1,4 +1,4 @@
--- Runs of readings and restarts, and the theorem on them.
+-- Runs of readings, restarts and changes of drive and noise, and the theorem on them.
 pub mod Run
 pub mod Events
 pub mod Theorem

@@ -649,7 +649,7 @@ pub fn runs_by_both(ours: &Ours, name: &'static str, runs: &[Run]) -> Group {
 }
 
 fn judged(ours: &Ours, name: &'static str, runs: &[Run], by: Yardstick) -> Group {
-    let mut group = Group::new(name, "readings and restarts");
+    let mut group = Group::new(name, "readings, restarts and changes");
     let steps = runs.iter().flat_map(|r| r.seen.windows(2)).map(|w| w[1].dt - w[0].dt).filter(|step| *step > 0.0);
     let (least, most) = steps.fold((f64::INFINITY, 0.0), |(a, b), step| (step.min(a), step.max(b)));
     let longest = runs.iter().map(|r| r.seen.len()).max().unwrap_or(0);
