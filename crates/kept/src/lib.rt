@@ -53,7 +53,7 @@ fn beside_zero(c: TwistColumns) -> [f64; 9]
 }
 
 // ---- one NaN in memory too. To the logic each of these gives back what it is given, since there all NaNs are one. A processor has many: one that it makes
-// of infinity less infinity has a sign bit on one machine and none on another, while the constant here has the same bits on all.
+// of infinity less infinity has a sign bit on x86-64 and none on Arm. Here it is a constant, the compiler's, whose bits tools/kept_bytes.py reads back.
 
 fn settled(x: f64) -> f64
     ensures { λ r. ⌜ r ≡ x ⌝ }
