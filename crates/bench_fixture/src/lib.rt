@@ -1,5 +1,7 @@
 // What bench/ links and times against the Rust: a few entries as plain functions over numbers and slices, with a fixed cart, board and sigmas. It is a
 // fixture of the bench and not a library for other languages: of a run only the time comes back.
+#![tactic(auto)]
+
 ghost use Rattle.std.specs.Prelude.{◌≡◌, get_or, length};
 ghost use Rattle.std.specs.Float.{nan};
 ghost use Rattle.number.specs.Float.{◌⊕◌};

@@ -1,5 +1,7 @@
 // What every program of cases shares. In goes a record at a time, its kind and what the kind has behind it, each a little-endian word of 64 bits; past the end
 // of the input every word is 0, which is the kind of no record. Out comes a line for each: its kind and words, as 16 hexadecimal digits behind a space.
+#![tactic(auto)]
+
 use inertial::ImuCalib;
 use libc::{STDIN_FILENO, STDOUT_FILENO};
 

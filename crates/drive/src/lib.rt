@@ -1,4 +1,6 @@
 // What the wheel encoders report, the drive that they sit on, and its noise. From the upper half of kornia's wheel.rs.
+#![tactic(auto)]
+
 pub mod formula;
 mod kinematics;
 mod noise;
@@ -6,7 +8,7 @@ mod readings;
 mod refusals;
 
 // Left and right; positive drives the base forward.
-#[derive(Drop)]
+#[derive(Clone, Copy)]
 pub enum Reading {
     // Cumulative encoder counts.
     Ticks(i64, i64),
@@ -15,7 +17,7 @@ pub enum Reading {
 }
 
 // One sample: its time in seconds, what it reads, and whether the driver vouches for it.
-#[derive(Drop)]
+#[derive(Clone, Copy)]
 pub struct WheelMeasurement {
     pub timestamp: f64,
     pub reading: Reading,
@@ -23,7 +25,7 @@ pub struct WheelMeasurement {
 }
 
 // Planar velocity of the base, in base axes: forward and leftward in m/s, yaw rate in rad/s, counter-clockwise seen from above.
-#[derive(Drop)]
+#[derive(Clone, Copy)]
 pub struct BodyTwist {
     pub vx: f64,
     pub vy: f64,
@@ -31,32 +33,32 @@ pub struct BodyTwist {
 }
 
 // Wheel angular velocities in rad/s.
-#[derive(Drop)]
+#[derive(Clone, Copy)]
 pub struct WheelRates {
     pub left: f64,
     pub right: f64,
 }
 
 // How the twist moves with the left and with the right rate.
-#[derive(Drop)]
+#[derive(Clone, Copy)]
 pub struct TwistColumns {
     pub left: BodyTwist,
     pub right: BodyTwist,
 }
 
-#[derive(Drop)]
+#[derive(Clone, Copy)]
 pub enum Twisted {
     Twist(BodyTwist),
     Refused(Refusal),
 }
 
-#[derive(Drop)]
+#[derive(Clone, Copy)]
 pub enum Jacobian {
     Columns(TwistColumns),
     Refused(Refusal),
 }
 
-#[derive(Drop)]
+#[derive(Clone, Copy)]
 pub enum Rated {
     Rates(WheelRates),
     Refused(Refusal),
@@ -64,7 +66,7 @@ pub enum Rated {
 
 // The wheels' radii and the distance between their contact points in metres, encoder counts per wheel turn, and the bits of the encoders' counters:
 // below 64 they start again at 0 where they are full. Each wheel has its own radius, since tyres wear unevenly.
-#[derive(Drop)]
+#[derive(Clone, Copy)]
 pub struct DifferentialDrive {
     pub left_radius: f64,
     pub right_radius: f64,
@@ -75,13 +77,13 @@ pub struct DifferentialDrive {
 
 // Per-wheel angular velocity noise in rad/s/√Hz, and lateral (side-slip) velocity noise of the base in m/s/√Hz. A differential drive has no
 // lateral motion, so without the latter the covariance is singular.
-#[derive(Drop)]
+#[derive(Clone, Copy)]
 pub struct WheelNoise {
     pub wheel_rate: f64,
     pub lateral_velocity: f64,
 }
 
-#[derive(Drop)]
+#[derive(Clone, Copy)]
 pub enum Refusal {
     // The reading is flagged invalid.
     Invalid,

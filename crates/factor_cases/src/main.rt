@@ -16,6 +16,8 @@
 // whether there is a row for the gyro (1), its mean, and its information; 10 has nothing beside a refusal; 11 has whether the limit is valid behind it. A
 // kind 100 higher is the same, with what 01 holds within a tolerance held against the Rust's: of a measurement place, heading, covariance and each
 // sigma stand behind a tolerance, and so does the matrix of 3.
+#![tactic(auto)]
+
 use planar::PlanarMotion;
 use robust::Huber;
 use stationary::{GyroMean, Joined, StationaryFactor, StationaryGyro};

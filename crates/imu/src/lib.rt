@@ -1,6 +1,8 @@
 // Readings of an inertial sensor accumulated between two frames: rotation, velocity and position, their covariance, and how they move with the
 // biases. From kornia's imu.rs; what its readings and noise are made of is the crate `inertial`, and what stands above one step are `imu_correction`
 // and `imu_window`.
+#![tactic(auto)]
+
 mod answer;
 mod state;
 mod step;
@@ -8,7 +10,7 @@ mod step;
 use inertial::{ImuBias, ImuCalib};
 pub use state::is_finite_bias;
 
-#[derive(Drop)]
+#[derive(Clone, Copy)]
 pub struct PreintegratedImu {
     // Accumulated rotation, velocity and position, and the time that they took.
     pub delta_rotation: [f64; 9],
@@ -30,13 +32,13 @@ pub struct PreintegratedImu {
 }
 
 // What became of a call, and the state after it: where it was refused, the state as it came.
-#[derive(Drop)]
+#[derive(Clone, Copy)]
 pub struct Integrated {
     pub outcome: Outcome,
     pub state: PreintegratedImu,
 }
 
-#[derive(Drop)]
+#[derive(Clone, Copy)]
 pub enum Outcome {
     Accepted,
     NonFinite,

@@ -18,6 +18,8 @@
 // A line of 2 to 6 has what became of the call (0, or the refusal's number), of 5 the index and of 6 every place of the buffer, and then the motion, the first
 // sixteen numbers of 7; 8 to 11 have what became of the call and the answer; 12 has the state as in 7. A kind 100 higher is the same, with the numbers held
 // against the Rust's: every matrix and every three numbers stand behind a tolerance, but for the biases.
+#![tactic(auto)]
+
 ghost use Rattle.std.specs.Prelude.{◌≡◌, ◌≤◌, length, take};
 
 use imu::{Outcome, PreintegratedImu};

@@ -1,4 +1,6 @@
 // The deltas of an inertial accumulation at another bias, to first order, with no reading integrated anew; and the prediction of the next frame. From kornia's imu.rs.
+#![tactic(auto)]
+
 ghost use Rattle.std.specs.Prelude.{◌≡◌};
 ghost use Rattle.mat3.specs.Matrix.{zeros as zeros_of};
 ghost use Rattle.vec3.specs.Vector.{zero_vector};
@@ -8,27 +10,27 @@ ghost use Rattle.imu_correction.specs.Correction.{accel_change, corrected_of, co
 use imu::{Outcome, PreintegratedImu};
 use inertial::ImuBias;
 
-#[derive(Drop)]
+#[derive(Clone, Copy)]
 pub struct CorrectedRotation {
     pub outcome: Outcome,
     pub rotation: [f64; 9],
 }
 
-#[derive(Drop)]
+#[derive(Clone, Copy)]
 pub struct CorrectedVector {
     pub outcome: Outcome,
     pub vector: [f64; 3],
 }
 
 // Rotation, velocity and position in the world.
-#[derive(Drop)]
+#[derive(Clone, Copy)]
 pub struct Prediction {
     pub rotation: [f64; 9],
     pub velocity: [f64; 3],
     pub position: [f64; 3],
 }
 
-#[derive(Drop)]
+#[derive(Clone, Copy)]
 pub struct Predicted {
     pub outcome: Outcome,
     pub state: Prediction,

@@ -1,5 +1,7 @@
 // What one inertial step makes of each part of the state: rotation, velocity and position, their covariance, and how they move with the biases. From
 // kornia's imu.rs.
+#![tactic(auto)]
+
 ghost use Rattle.std.specs.Prelude.{◌≡◌};
 ghost use Rattle.imu_step.specs.Inside.Lean.{lean_covariance_after};
 ghost use Rattle.imu_step.specs.Parts.{half_square, less_half_square, less_times, matrix_a, matrix_b, matrix_n, motion_after, position_after, position_by_accel, position_by_gyro, rotation_after, rotation_by_gyro, velocity_after, velocity_by_accel, velocity_by_gyro};
@@ -8,7 +10,7 @@ use inertial::ImuCalib;
 use rotation::Increment;
 
 // Accumulated rotation, velocity and position.
-#[derive(Drop)]
+#[derive(Clone, Copy)]
 pub struct Motion {
     pub rotation: [f64; 9],
     pub velocity: [f64; 3],

@@ -1,8 +1,10 @@
 // The plain records of the inertial parts: a reading, the biases, the noise densities; and samples, which are readings in flat numbers. From kornia's imu.rs.
+#![tactic(auto)]
+
 pub mod samples;
 
 // One reading: its time in seconds, angular velocity in rad/s and acceleration in m/s², both in the body frame.
-#[derive(Drop)]
+#[derive(Clone, Copy)]
 pub struct ImuMeasurement {
     pub timestamp: f64,
     pub gyro: [f64; 3],
@@ -10,7 +12,7 @@ pub struct ImuMeasurement {
 }
 
 // Biases of the gyroscope and the accelerometer.
-#[derive(Drop)]
+#[derive(Clone, Copy)]
 pub struct ImuBias {
     pub gyro: [f64; 3],
     pub accel: [f64; 3],
@@ -25,7 +27,7 @@ impl ImuBias {
 
 // Noise densities from the sensor's data sheet: white noise of the gyroscope (rad/s/√Hz) and the accelerometer (m/s²/√Hz), and the random walk of
 // their biases (rad/s²/√Hz, m/s³/√Hz).
-#[derive(Drop)]
+#[derive(Clone, Copy)]
 pub struct ImuCalib {
     pub gyro_noise: f64,
     pub accel_noise: f64,
@@ -34,7 +36,7 @@ pub struct ImuCalib {
 }
 
 // How many samples the numbers hold, each case named as in 01's table of refusals.
-#[derive(Drop)]
+#[derive(Clone, Copy)]
 pub enum Counted {
     Count(usize),
     BadLength,

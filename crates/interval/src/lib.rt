@@ -1,4 +1,6 @@
 // The motion from one reading to the next, an arc of constant twist in substeps, and what is accumulated over many. From kornia's wheel.rs.
+#![tactic(auto)]
+
 ghost use Rattle.std.specs.Prelude.{◌≡◌};
 ghost use Rattle.interval.specs.Accumulated.{finite_accumulated};
 
@@ -14,7 +16,7 @@ pub const MAX_SUBSTEP_ANGLE: f64 = 0.02;
 
 // What is worked out of two readings before anything is asked of it: the time between them, the twist that is held over it, and the 2^halvings
 // substeps that it is cut into, each of so many seconds and turning by the angle.
-#[derive(Drop)]
+#[derive(Clone, Copy)]
 pub struct Interval {
     pub dt: f64,
     pub twist: BodyTwist,
@@ -24,7 +26,7 @@ pub struct Interval {
 }
 
 // Base motion since the start, base-now in base-start, and the time that it took, in seconds.
-#[derive(Drop)]
+#[derive(Clone, Copy)]
 pub struct Accumulated {
     pub motion: PlanarMotion,
     pub dt: f64,

@@ -1,4 +1,6 @@
 // The determinant of a 3×3 matrix and its inverse. In the names of locals `m12` is what stands in row 1 and column 2.
+#![tactic(auto)]
+
 ghost use Rattle.std.specs.Prelude.{◌≡◌};
 ghost use Rattle.inverse3.specs.Inverse.{adjugate as adjugate_of, determinant as determinant_of, inverse as inverse_of};
 

@@ -1,5 +1,7 @@
 // What depends only on drive and noise and is kept in the integrator, so that no reading works it out again: 02, W-206. From kornia's wheel.rs, which
 // works it out at each.
+#![tactic(auto)]
+
 ghost use Rattle.std.specs.Prelude.{◌≡◌};
 ghost use Rattle.kept.specs.Kept.{beside_zero, kept_of, rate_noise};
 
@@ -7,7 +9,7 @@ use drive::formula::{columns, radians_per_tick};
 use drive::{DifferentialDrive, TwistColumns, WheelNoise};
 
 // The covariance per second of the twist, and how far a wheel turns from one encoder count to the next.
-#[derive(Drop)]
+#[derive(Clone, Copy)]
 pub struct KeptValues {
     pub rate_noise: [f64; 9],
     pub radians_per_tick: f64,

@@ -1,5 +1,7 @@
 // What tools/kept_bytes links: the values that an integrator keeps, stored where a program outside the language reads their bytes. To the logic all NaNs are
 // one, so that no contract says which bits a kept NaN has in memory, and 02 (W-206) does. It is a fixture of that test and not a library for other languages.
+#![tactic(auto)]
+
 ghost use Rattle.std.specs.Prelude.{◌≡◌, length};
 ghost use Rattle.number.specs.Tabulated.{tabulated};
 ghost use Rattle.kept_bytes.specs.Fixture.{kept_after, kept_number};

@@ -1,5 +1,7 @@
 // The covariance of the inertial step, A.C.Aᵀ + B.N.Bᵀ, of which A, B and N are mostly zeros: what meets a zero is left out. A zero times a finite number is a zero and adds
 // nothing, bit for bit, to a sum that starts from +0; and what is not finite stays so. proofs/Agrees.antt has the law.
+#![tactic(auto)]
+
 ghost use Rattle.std.specs.Prelude.{◌≡◌, ◌+◌, ◌*◌, ◌<◌, ◌≤◌, get_or, length, ltb};
 ghost use Rattle.std.proofs.Math.Seq.{paste};
 ghost use Rattle.std.specs.Float.{nan};

@@ -1,5 +1,7 @@
 // 3×3 matrices of f64: nine numbers by value, column by column, as the Rust's `Mat3F64` stores them. What is done column by column is left to the
 // functions on three numbers: that keeps the proofs short.
+#![tactic(auto)]
+
 ghost use Rattle.std.specs.Prelude.{◌≡◌};
 ghost use Rattle.mat3.specs.Matrix.{column as column_of, columns as columns_of, diagonal as diagonal_of, difference as difference_of, finite_matrix, hat as hat_of, identity as identity_of, product as product_of, scaled as scaled_of, sum as sum_of, transform as transform_of, transpose as transpose_of, yaw as yaw_of, zeros as zeros_of};
 

@@ -3,7 +3,7 @@ ghost use Rattle.std.specs.Prelude.{◌≡◌};
 ghost use Rattle.number.specs.Halving.{first_from, halvings_of, made};
 
 // So many halvings, and the number of equal parts that they make: 2^count.
-#[derive(Drop)]
+#[derive(Clone, Copy)]
 pub struct Halved {
     pub count: u32,
     pub parts: f64,

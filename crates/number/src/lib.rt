@@ -1,5 +1,7 @@
 // Numbers, on which nearly every other crate stands: tests of an f64, whole numbers as f64, counts of an encoder and their difference, the halving count.
 // Each answers for every bit pattern, and its contract equates the answer with a definition of specs/.
+#![tactic(auto)]
+
 pub mod float;
 pub mod halving;
 pub mod tick;

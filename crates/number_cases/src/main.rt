@@ -9,6 +9,8 @@
 //
 // A line has, of 3 and 4, what became of the call (0, or the refusal's number), and what it answers. A kind 100 higher is the same, with the sine and the cosine
 // each held against another behind a tolerance.
+#![tactic(auto)]
+
 use root::Root;
 use sincos::Turned;
 

@@ -1,15 +1,17 @@
 // Planar motions of the cart's base, and the composing of two. From kornia's wheel.rs.
+#![tactic(auto)]
+
 pub mod formula;
 mod motion;
 
 // (dx, dy, dθ): base j in base i, metres and radians; and the covariance of the three, column by column.
-#[derive(Drop)]
+#[derive(Clone, Copy)]
 pub struct PlanarMotion {
     pub delta: [f64; 3],
     pub covariance: [f64; 9],
 }
 
-#[derive(Drop)]
+#[derive(Clone, Copy)]
 pub enum Outcome {
     Accepted,
     NonFinite,
@@ -17,7 +19,7 @@ pub enum Outcome {
 }
 
 // The composed motion, or a refusal beside the identity.
-#[derive(Drop)]
+#[derive(Clone, Copy)]
 pub struct Composed {
     pub outcome: Outcome,
     pub motion: PlanarMotion,

@@ -1,5 +1,7 @@
 // What a covariance of x, y and the heading must be for its motion to have information, and the planar block of that information. From kornia's
 // wheel_odom.rs.
+#![tactic(auto)]
+
 ghost use Rattle.std.specs.Prelude.{◌≡◌};
 ghost use Rattle.planar_information.specs.Block.{invertible, near_symmetric, near_symmetry, planar_block, positive_determinant, positive_minors};
 

@@ -1,4 +1,6 @@
 // The bytes of a reading and of a cart's parameters, as a log has them. A byte past the end counts 0, so that any bytes are a record.
+#![tactic(auto)]
+
 ghost use Rattle.std.specs.Prelude.{◌≡◌};
 ghost use Rattle.records.specs.Records.{content_of, drive_of, kind_of, noise_of, reading_of, sound_reading, zero_or_one};
 

@@ -1,5 +1,7 @@
 // Replays a list of logs from standard input, each after its length as a little-endian u64, and writes for each a line `log I`, the first being
 // log 0, and then the log's lines. tools/replay_cases.py makes the input and the expected output.
+#![tactic(auto)]
+
 ghost use Rattle.io.specs.Counts.{IsPrefixLen};
 
 use libc::{STDIN_FILENO, STDOUT_FILENO};

@@ -1,8 +1,10 @@
 // The Huber limit that wheel and still factors share: a threshold on a residual's chi², or none.
+#![tactic(auto)]
+
 ghost use Rattle.std.specs.Prelude.{◌≡◌};
 ghost use Rattle.robust.specs.Huber.{valid_huber, joined_of, tighter};
 
-#[derive(Drop)]
+#[derive(Clone, Copy)]
 pub enum Huber {
     // The factor stays quadratic.
     Absent,

@@ -1,5 +1,7 @@
 // The square root of an f64, correctly rounded. The bit pattern is taken apart, the root of a whole number of 53 or 54 binary
 // digits is worked out to 54 digits, exactly, and the last digit rounds.
+#![tactic(auto)]
+
 ghost use Rattle.std.specs.Prelude.{◌≡◌, ◌+◌, ◌*◌, ◌^◌, ◌≤◌, ◌<◌, T};
 ghost use Rattle.std.specs.Float.Ieee.Positive.{positive};
 ghost use Rattle.root.specs.Root.{IsRoot, said_root, sqrt_of};
@@ -8,7 +10,7 @@ ghost use Rattle.root.specs.Inside.Steps.{RootBits, Floor, Scale};
 pub mod formula;
 
 // What `sqrt` answers: a root, or NonFinite for a NaN and for a number below zero, which have none.
-#[derive(Drop)]
+#[derive(Clone, Copy)]
 pub enum Root {
     Value(f64),
     NonFinite,
@@ -68,7 +70,7 @@ fn whole_root(m: u64) -> u64
 }
 
 // The number m * 4^h.
-#[derive(Drop)]
+#[derive(Clone, Copy)]
 struct Scaled {
     m: u64,
     h: u64,

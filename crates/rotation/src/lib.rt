@@ -1,9 +1,11 @@
 // Turns in space: the exponential and its right Jacobian, and the way back onto the rotations. From kornia's imu.rs.
+#![tactic(auto)]
+
 ghost use Rattle.std.specs.Prelude.{◌≡◌};
 ghost use Rattle.rotation.specs.Rotation.{across as across_of, closed_forms, coefficients_of, exp_by, hat_of, increment_of, jacobian_by, normalized as normalized_of, series_of, unit as unit_of};
 
 // A = sin θ / θ, B = (1 − cos θ) / θ², C = (θ − sin θ) / θ³.
-#[derive(Drop)]
+#[derive(Clone, Copy)]
 pub struct Coefficients {
     pub a: f64,
     pub b: f64,
@@ -11,7 +13,7 @@ pub struct Coefficients {
 }
 
 // The angle of a turn, its exponential and its right Jacobian.
-#[derive(Drop)]
+#[derive(Clone, Copy)]
 pub struct Increment {
     pub angle: f64,
     pub exp: [f64; 9],

@@ -1,4 +1,6 @@
 // Sine and cosine of an angle of at most 4 in size, both from one call, by the evaluation of docs/SINCOS.md.
+#![tactic(auto)]
+
 ghost use Rattle.std.specs.Prelude.{◌≡◌};
 ghost use Rattle.sincos.specs.Turn.{above_four, said_turned, sin_cos_of};
 
@@ -7,14 +9,14 @@ pub mod formula;
 use formula::turn_of;
 use number::{is_finite, size};
 
-#[derive(Drop)]
+#[derive(Clone, Copy)]
 pub struct SinCos {
     pub sin: f64,
     pub cos: f64,
 }
 
 // The two values, or why there are none: the angle is an infinity or a NaN, or it is above 4 in size.
-#[derive(Drop)]
+#[derive(Clone, Copy)]
 pub enum Turned {
     Value(SinCos),
     NonFinite,

@@ -1,4 +1,6 @@
 // Still stretches: when a cart is parked, two keyframes are linked by a factor that says so. From kornia's stationary.rs.
+#![tactic(auto)]
+
 mod factor;
 mod join;
 
@@ -6,7 +8,7 @@ use inertial::ImuCalib;
 use robust::Huber;
 
 // The mean raw gyro rate in rad/s, body frame, and the seconds of samples behind it.
-#[derive(Drop)]
+#[derive(Clone, Copy)]
 pub struct StationaryGyro {
     pub x: f64,
     pub y: f64,
@@ -14,13 +16,13 @@ pub struct StationaryGyro {
     pub covered_s: f64,
 }
 
-#[derive(Drop)]
+#[derive(Clone, Copy)]
 pub enum GyroMean {
     Unmeasured,
     Measured(StationaryGyro),
 }
 
-#[derive(Drop)]
+#[derive(Clone, Copy)]
 pub struct StationaryFactor {
     // Earlier and later keyframe.
     pub from_idx: usize,
@@ -37,7 +39,7 @@ pub struct StationaryFactor {
     pub huber_chi2: Huber,
 }
 
-#[derive(Drop)]
+#[derive(Clone, Copy)]
 pub enum Joined {
     Factor(StationaryFactor),
     InvalidFactor,

@@ -1,4 +1,6 @@
 // The information of each residual block of a still factor; every block is diagonal. From kornia's stationary.rs.
+#![tactic(auto)]
+
 ghost use Rattle.std.specs.Prelude.{◌≡◌};
 ghost use Rattle.number.specs.Said.{told};
 ghost use Rattle.stationary_information.specs.Information.{blank_info, finite_info, finite_row, gyro_row, info_of, information_of, pose_diagonal, row_of, said_outcome, told_informed};
@@ -6,13 +8,13 @@ ghost use Rattle.stationary_information.specs.Information.{blank_info, finite_in
 use stationary::{GyroMean, StationaryFactor, StationaryGyro};
 
 // The measured mean rate and its information on each axis.
-#[derive(Drop)]
+#[derive(Clone, Copy)]
 pub enum GyroRow {
     NoRow,
     Row(StationaryGyro, f64),
 }
 
-#[derive(Drop)]
+#[derive(Clone, Copy)]
 pub struct StationaryInfo {
     // Thirty-six numbers, column by column.
     pub pose: [f64; 36],
@@ -23,14 +25,14 @@ pub struct StationaryInfo {
     pub gyro_mean: GyroRow,
 }
 
-#[derive(Drop)]
+#[derive(Clone, Copy)]
 pub enum Outcome {
     Given,
     InvalidFactor,
     NonFinite,
 }
 
-#[derive(Drop)]
+#[derive(Clone, Copy)]
 pub struct Informed {
     pub outcome: Outcome,
     pub info: StationaryInfo,

@@ -1,11 +1,13 @@
 // What of a reading is refused before anything is composed, in 01's order, with 02's refusals at their places. From kornia's wheel.rs.
+#![tactic(auto)]
+
 ghost use Rattle.std.specs.Prelude.{◌≡◌};
 ghost use Rattle.step_order.specs.Order.{interval_fits, reading_fits, said_outcome};
 
 use drive::{DifferentialDrive, Refusal, WheelMeasurement, WheelNoise};
 use interval::Interval;
 
-#[derive(Drop)]
+#[derive(Clone, Copy)]
 pub enum Outcome {
     Accepted,
     Refused(Refusal),

@@ -1,4 +1,6 @@
 // 01's table of examples, run: each answer of the code in bits or digits. That the definitions give the same is proved (proofs/Table.antt).
+#![tactic(auto)]
+
 use drive::{DifferentialDrive, Twisted};
 use libc::STDOUT_FILENO;
 use root::Root;

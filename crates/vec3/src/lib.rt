@@ -1,4 +1,6 @@
 // Three numbers by value as a vector, as the Rust's `Vec3F64`.
+#![tactic(auto)]
+
 ghost use Rattle.std.specs.Prelude.{◌≡◌};
 ghost use Rattle.vec3.specs.Vector.{cross as cross_of, dot as dot_of, finite_vector, vector_difference, vector_scaled, vector_sum};
 

@@ -1,4 +1,6 @@
 // Wheel odometry: the integrator that takes one reading at a time. From the lower half of kornia's wheel.rs.
+#![tactic(auto)]
+
 mod state;
 mod step;
 
@@ -8,21 +10,21 @@ use kept::KeptValues;
 use step_order::Outcome;
 
 // The last reading that was taken, where the next interval starts.
-#[derive(Drop)]
+#[derive(Clone, Copy)]
 pub enum Last {
     Nothing,
     At(WheelMeasurement),
 }
 
 // What an integrator is made with.
-#[derive(Drop)]
+#[derive(Clone, Copy)]
 pub struct Settings {
     pub drive: DifferentialDrive,
     pub noise: WheelNoise,
 }
 
 // The kept values are those of the settings, unless a state with others is handed in.
-#[derive(Drop)]
+#[derive(Clone, Copy)]
 pub struct WheelPreintegration {
     pub settings: Settings,
     pub kept: KeptValues,
@@ -31,7 +33,7 @@ pub struct WheelPreintegration {
 }
 
 // What became of a call, beside the state: the new one, or the one that was handed in.
-#[derive(Drop)]
+#[derive(Clone, Copy)]
 pub struct Answer {
     pub outcome: Outcome,
     pub state: WheelPreintegration,

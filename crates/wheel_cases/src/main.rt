@@ -23,6 +23,8 @@
 // A kind 100 higher is the same, with motions and twists held against the Rust's: place, heading and covariance, and the forward speed and the yaw rate, each
 // stand behind a tolerance. A kind 200 higher is the same, with the kept values in a state, behind its noise: the nine numbers of the rate noise and the radians
 // per tick. The Rust keeps none, so that otherwise none stand there, and those of a state that is handed in are worked out.
+#![tactic(auto)]
+
 use drive::{
     BodyTwist, DifferentialDrive, Jacobian, Rated, Reading, Refusal, Twisted, WheelMeasurement,
     WheelNoise,

@@ -1,4 +1,6 @@
 // A wheel-odometry constraint between two keyframes, whether it can enter a solve, and the joining of two. From kornia's wheel_odom.rs.
+#![tactic(auto)]
+
 ghost use Rattle.std.specs.Prelude.{◌≡◌};
 ghost use Rattle.number.specs.Said.{told};
 ghost use Rattle.wheel_factor.specs.Factor.{blank_factor, compose_factor_of, factor_of, finite_extrinsic, valid_factor, is_given, told_factor};
@@ -9,13 +11,13 @@ use robust::Huber;
 use wheel_odom::{Information, Outcome, WheelOdomMeasurement};
 
 // Base-to-camera transform: X_cam = rotation · X_base + translation.
-#[derive(Drop)]
+#[derive(Clone, Copy)]
 pub struct Extrinsic {
     pub rotation: [f64; 9],
     pub translation: [f64; 3],
 }
 
-#[derive(Drop)]
+#[derive(Clone, Copy)]
 pub struct WheelOdomFactor {
     pub from_idx: usize,
     pub to_idx: usize,
@@ -26,7 +28,7 @@ pub struct WheelOdomFactor {
     pub huber_chi2: Huber,
 }
 
-#[derive(Drop)]
+#[derive(Clone, Copy)]
 pub struct ComposedFactor {
     pub outcome: Outcome,
     pub factor: WheelOdomFactor,

@@ -1,9 +1,11 @@
 // The motion that a cart's wheels measured between two keyframes: its information, and the composing of two. From kornia's wheel_odom.rs.
+#![tactic(auto)]
+
 mod info;
 mod measurement;
 
 // (dx, dy, dθ) and its covariance, column by column; out-of-plane translation sigma in metres, roll and pitch sigma in radians.
-#[derive(Drop)]
+#[derive(Clone, Copy)]
 pub struct WheelOdomMeasurement {
     pub delta: [f64; 3],
     pub covariance: [f64; 9],
@@ -11,7 +13,7 @@ pub struct WheelOdomMeasurement {
     pub tilt_sigma: f64,
 }
 
-#[derive(Drop)]
+#[derive(Clone, Copy)]
 pub enum Outcome {
     Accepted,
     NonFinite,
@@ -20,13 +22,13 @@ pub enum Outcome {
     NotJoined,
 }
 
-#[derive(Drop)]
+#[derive(Clone, Copy)]
 pub struct ComposedMeasurement {
     pub outcome: Outcome,
     pub measurement: WheelOdomMeasurement,
 }
 
-#[derive(Drop)]
+#[derive(Clone, Copy)]
 pub enum Information {
     Given,
     // The sigmas, the numbers or the covariance allow none.
@@ -36,7 +38,7 @@ pub enum Information {
 }
 
 // Thirty-six numbers, column by column.
-#[derive(Drop)]
+#[derive(Clone, Copy)]
 pub struct Informed {
     pub outcome: Information,
     pub matrix: [f64; 36],

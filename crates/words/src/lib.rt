@@ -1,4 +1,6 @@
 // Little-endian numbers in lent bytes, for every bit pattern. A byte past the end counts 0, so that nothing is asked of the caller.
+#![tactic(auto)]
+
 ghost use Rattle.std.specs.Prelude.{◌≡◌, ◌+◌, ◌^◌, ◌<◌, ◌≤◌, get_or, length};
 ghost use Rattle.std.specs.Float.{binary64};
 ghost use Rattle.std.specs.Float.Ieee.{of_bits as of_pattern, to_bits as to_pattern};

@@ -83,6 +83,8 @@ level x y p q h = record { at_most = ≤ᶠ-of_cross x y p q (omega arith); at_l
 
 -- a value of the sign and size of x
 of_value : (v : Float) (s : Bool) (m : ℕ) (e : ℤ) → HasValue v s (m * up e) (down e) → Same v (fin s m e)
+of_value nan s m e h = elim h [ ]
+of_value (inf _) s m e h = elim h [ ]
 of_value (fin true n d) true m e h = level (fin true n d) (fin true m e) refl refl (omega (arith, h.1))
 of_value (fin true n d) false m e h = absurd (true≢false h.0)
 of_value (fin false n d) true m e h = absurd (false≢true h.0)
