@@ -1,0 +1,31 @@
+-- `root::sqrt` meets its contract: the tests are the definition's, and what is left is finite and above zero, so that `positive_root` finds the one root.
+-- Assumes nothing.
+use borrow.Author.Tests.{not-false}
+use lib.Ieee.{nan_bits}
+use Rattle.root.specs.Root.{sqrt_of}
+use Rattle.root.proofs.Choice.{is_positive}
+use Rattle.root.proofs.Descend.{only_root}
+use Rattle.root.proofs.sqrt.Goals as goal
+
+pub returns-then-x : goal.returns-then-x
+unfolding sqrt_of
+returns-then-x c = simp c.if-x.true
+
+pub float_from_bits-inf : goal.float_from_bits-inf
+unfolding nan_bits
+float_from_bits-inf c = tt
+
+pub returns-then-x-inf : goal.returns-then-x-inf
+unfolding sqrt_of
+returns-then-x-inf c = simp (c.if-x.false, c.if-x-inf.true)
+
+pub returns-then-not-x : goal.returns-then-not-x
+unfolding sqrt_of
+returns-then-not-x c = simp (c.if-x.false, c.if-x-inf.false, c.if-not-x.true)
+
+pub positive_root-requires : goal.positive_root-requires
+positive_root-requires c = is_positive c.args.x (not-false _ c.if-not-x.false) c.if-x-inf.false
+
+pub returns : goal.returns
+unfolding sqrt_of
+returns c = simp (c.if-x.false, c.if-x-inf.false, c.if-not-x.false, only_root c.args.x c.positive_root.result c.positive_root.ensures)

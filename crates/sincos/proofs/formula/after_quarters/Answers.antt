@@ -1,0 +1,7 @@
+use Rattle.sincos.specs.Turn.{less_quarters}
+use borrow.Author.Rules.{rules}
+use Rattle.sincos.proofs.formula.after_quarters.Goals as goal
+
+pub returns : goal.returns
+unfolding less_quarters
+returns c = c.long_kernel.ensures

@@ -1,0 +1,7 @@
+use Rattle.sincos.specs.Turn.{above_four}
+use borrow.Author.Rules.{rules}
+use Rattle.sincos.proofs.is_above_four.Goals as goal
+
+pub returns : goal.returns
+unfolding above_four
+returns c = cc
