@@ -1,12 +1,12 @@
 -- No f64 is nearer to a whole number than a multiple of the gap that lies within half a gap of it. From the number's highest power of two on, every f64 is
 -- a multiple of the gap; one below that power lies further off than the power itself, which is a multiple too. With the other sign it lies beyond zero.
 -- Assumes nothing.
-use Rattle.std.proofs.Common.{◌≡◌, ℕ, zero, suc, ◌+◌, ◌-◌, ◌*◌, ◌%◌, ◌^◌, ◌<◌, ◌≤◌, Bool, true, false, ◌&&◌, T, eqb, ltb, leb, ℤ, pos, negsuc, nat_abs, sym, refl, ap, ◌∙◌, subst, inl, inr, zero-le, le_trans, lt_of_lt_of_le, le_of_lt, mul-le-mul_right, mul_assoc, suc-mul, add-mul, eq-zero-or-pos, zero-mul, mul-one, le-mul_of_pos_right, le-add_left, arith, ltb→lt, pow_pos, pow_mono, pow-add, shl_lt}
+use Rattle.std.proofs.Common.{◌≡◌, ℕ, zero, suc, ◌+◌, ◌-◌, ◌*◌, ◌%◌, ◌^◌, ◌<◌, ◌≤◌, Bool, true, false, ◌&&◌, T, eqb, ltb, leb, ℤ, pos, negsuc, nat_abs, sym, ap, ◌∙◌, subst, inl, inr, zero-le, le_trans, lt_of_lt_of_le, le_of_lt, mul-le-mul_right, mul_assoc, suc-mul, add-mul, eq-zero-or-pos, zero-mul, mul-one, le-mul_of_pos_right, le-add_left, arith, ltb→lt, pow_pos, pow_mono, pow-add, shl_lt}
 use lib.Ieee.{Float, nan, inf, fin, binary64, emax, low, up, down, size, fits}
 use lib.Ieee.Digits.{size_reaches}
 use lib.Ieee.Exact.{HasValue}
 use lib.Ieee.Fits.{and_l, and_r}
-use Rattle.number.specs.Whole.{apart, away, gap, IsNearest, negative}
+use Rattle.number.specs.Whole.{apart, away, gap, IsNearest}
 use Rattle.number.proofs.Below.{below_or_not}
 
 -- ---- of the multiples of g

@@ -1,5 +1,4 @@
 use Rattle.number.specs.Fit.{finite_positive}
-use Rattle.std.proofs.Common.{rules}
 use Rattle.number.proofs.float.is_finite_positive.Goals as goal
 
 pub returns : goal.returns

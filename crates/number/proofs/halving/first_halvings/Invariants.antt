@@ -1,13 +1,8 @@
 -- `halving::first_halvings` meets its contract. The invariant: `parts` is 2^count, and the search from 0 has come to the search from `count`.
 -- The measure is the number of tries left. Assumes nothing.
-use Rattle.std.proofs.Common.{◌≡◌, ℕ, suc, ◌+◌, ◌-◌, ◌<◌, ◌≤◌, true, false, sym, refl, ap, ◌∙◌, subst, add-one, arith}
-use borrow.Author.Tests.{not-true, not-false}
+use Rattle.std.proofs.Common.{◌≡◌, ℕ, ◌-◌, ◌≤◌}
 use lib.Ieee.{Float}
-use Rattle.number.specs.declared.halving.Halved.{Halved}
-use Rattle.number.specs.Float.{◌⊕◌, ◌<ᶠ◌}
-use Rattle.number.specs.Halving.{power, first_from, made}
-use Rattle.number.proofs.halving.Powers.{power_doubles, power_none}
-use Rattle.number.proofs.halving.Least.{first_more, first_done, first_none}
+use Rattle.number.specs.Halving.{power, first_from}
 use Rattle.number.proofs.halving.first_halvings.Given as goal
 
 pub record Tried (ratio : Float) (count : ℕ) (parts : Float) : Type 0 where

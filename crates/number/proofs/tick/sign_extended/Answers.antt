@@ -1,7 +1,6 @@
 -- `tick::sign_extended` meets its contract: at 64 bits nothing is cut off, and below that the highest bit of the lowest ones is the sign. Assumes nothing.
-use Rattle.std.proofs.Common.{◌<◌, ap, mod-lt, arith, rules}
-use Rattle.number.specs.Ticks.{width_of}
-use Rattle.number.proofs.tick.Width.{width_large, extended_whole, half_positive, size_fits, extended_low, extended_high}
+use Rattle.std.proofs.Common.{◌<◌, arith}
+use Rattle.number.proofs.tick.Width.{half_positive, size_fits}
 use Rattle.number.proofs.tick.sign_extended.Goals as goal
 
 -- a width from 1 to 63, and the power that is half its range

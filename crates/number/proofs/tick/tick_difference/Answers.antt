@@ -1,6 +1,6 @@
 -- `tick::tick_difference` meets its contract: the bits' difference modulo 2^64 is the residue of the difference, and sign extension makes the difference over the
 -- width of it. Assumes nothing.
-use Rattle.std.proofs.Common.{◌≡◌, ℕ, ◌+◌, ◌%◌, ◌^◌, ◌-ℤ◌, sym, ap, ◌∙◌, w64, rules}
+use Rattle.std.proofs.Common.{◌≡◌, ℕ, ◌+◌, ◌%◌, ◌^◌, ◌-ℤ◌, sym, ap, ◌∙◌, w64}
 use mir.ValLaws.{to_z-of_z}
 use Rattle.number.specs.Ticks.{residue, signed, tick_difference}
 use Rattle.number.proofs.tick.Signed.{residue_of_difference}

@@ -1,5 +1,5 @@
 -- `tick::tick_in_range` meets its contract: the bits of a number below 0 are too large for any counter below 64. Assumes nothing.
-use Rattle.std.proofs.Common.{ltb, ap, ◌∙◌, arith, w64, rules}
+use Rattle.std.proofs.Common.{ltb, ap, ◌∙◌, arith, w64}
 use mir.ValLaws.{to_z-of_z}
 use Rattle.number.specs.Ticks.{residue}
 use Rattle.number.proofs.tick.Signed.{i64_fits}
