@@ -7,14 +7,14 @@ use Rattle.wheel.proofs.WheelPreintegration.step_from.Goals as goal
 pub returns-in-Refused : goal.returns-in-Refused
 unfolding step_from
 returns-in-Refused c =
-    c.refused.ensures ∙ rw (sym c.interval_of-i.ensures, sym c.interval_fits-fit.ensures, c.fit-1.given.1)
+    c.refused.ensures ∙ rw (sym c.interval_of-i.ensures, sym c.interval_fits-fit.ensures, c.in-Refused.is)
 
 pub returns-then-not-is_finite : goal.returns-then-not-is_finite
 unfolding step_from
 returns-then-not-is_finite c =
-    c.refused-then-not-is_finite.ensures ∙ rw (sym c.interval_of-i.ensures, sym c.interval_fits-fit.ensures, c.enum_told-1.given.1, sym c.advanced-accumulated.ensures, sym c.is_finite.ensures, c.if-not-is_finite.true)
+    c.refused-then-not-is_finite.ensures ∙ rw (sym c.interval_of-i.ensures, sym c.interval_fits-fit.ensures, c.in_default.is, sym c.advanced-accumulated.ensures, sym c.is_finite.ensures, c.if-not-is_finite.true)
 
 pub returns : goal.returns
 unfolding step_from
 returns c =
-    c.moved.ensures ∙ rw (sym c.interval_of-i.ensures, sym c.interval_fits-fit.ensures, c.enum_told-1.given.1, sym c.advanced-accumulated.ensures, sym c.is_finite.ensures, c.if-not-is_finite.false)
+    c.moved.ensures ∙ rw (sym c.interval_of-i.ensures, sym c.interval_fits-fit.ensures, c.in_default.is, sym c.advanced-accumulated.ensures, sym c.is_finite.ensures, c.if-not-is_finite.false)
