@@ -12,3 +12,7 @@ loop-c-init c = filled_to_none refl
 
 pub loop-r-preserved : goal.loop-r-preserved
 loop-r-preserved c = filled_to_more c.loop-r.invariant (omega arith) (omega arith) refl
+
+pub returns : goal.returns
+unfolding blocks
+returns c = filled_to_done c.loop-c.invariant (omega arith)

@@ -15,3 +15,7 @@ loop-n-init c = filled_none refl
 
 pub loop-n-preserved : goal.loop-n-preserved
 loop-n-preserved c = filled_more c.loop-n.invariant (omega arith) (rw mod-add-div')
+
+pub returns : goal.returns
+unfolding sum matrix
+returns c = filled_done c.loop-n.invariant (omega arith)
