@@ -58,6 +58,7 @@ fn matrix_a(exp: [f64; 9], g: [f64; 9], dt: f64) -> [f64; 81]
 }
 
 // How the sensor's noise enters the state.
+#[tactic(auto, unfolding(crate::specs::Parts::matrix_b))]
 fn matrix_b(jacobian: [f64; 9], rotation: [f64; 9], dt: f64) -> [f64; 54]
     ensures { result ≡ matrix_b jacobian rotation dt }
 {
@@ -73,6 +74,7 @@ fn matrix_b(jacobian: [f64; 9], rotation: [f64; 9], dt: f64) -> [f64; 54]
 }
 
 // The densities are of continuous time, so that a reading held for dt has the variance density²/dt.
+#[tactic(auto, unfolding(crate::specs::Parts::matrix_n))]
 fn matrix_n(calib: ImuCalib, dt: f64) -> [f64; 36]
     ensures { result ≡ matrix_n calib dt }
 {
@@ -83,6 +85,7 @@ fn matrix_n(calib: ImuCalib, dt: f64) -> [f64; 36]
 }
 
 // A.C.Aᵀ + B.N.Bᵀ. A, B and N are mostly zeros, and what meets a zero is left out of the products.
+#[tactic(auto, unfolding(crate::specs::Inside::Lean::lean_covariance_after))]
 pub fn covariance_after(
     before: &[f64; 81],
     calib: ImuCalib,
@@ -101,6 +104,7 @@ pub fn covariance_after(
     lean9::carried(&a, before, &b, &n)
 }
 
+#[tactic(auto, unfolding(crate::specs::Parts::position_by_gyro))]
 pub fn position_by_gyro(pg: [f64; 9], vg: [f64; 9], rg: [f64; 9], g: [f64; 9], dt: f64) -> [f64; 9]
     ensures { result ≡ position_by_gyro pg vg rg g dt }
 {
@@ -110,6 +114,7 @@ pub fn position_by_gyro(pg: [f64; 9], vg: [f64; 9], rg: [f64; 9], g: [f64; 9], d
     )
 }
 
+#[tactic(auto, unfolding(crate::specs::Parts::position_by_accel))]
 pub fn position_by_accel(pa: [f64; 9], va: [f64; 9], rotation: [f64; 9], dt: f64) -> [f64; 9]
     ensures { result ≡ position_by_accel pa va rotation dt }
 {
@@ -119,18 +124,21 @@ pub fn position_by_accel(pa: [f64; 9], va: [f64; 9], rotation: [f64; 9], dt: f64
     )
 }
 
+#[tactic(auto, unfolding(crate::specs::Parts::velocity_by_gyro))]
 pub fn velocity_by_gyro(vg: [f64; 9], rg: [f64; 9], g: [f64; 9], dt: f64) -> [f64; 9]
     ensures { result ≡ velocity_by_gyro vg rg g dt }
 {
     mat3::sum(vg, mat3::product(less_times(g, dt), rg))
 }
 
+#[tactic(auto, unfolding(crate::specs::Parts::velocity_by_accel))]
 pub fn velocity_by_accel(va: [f64; 9], rotation: [f64; 9], dt: f64) -> [f64; 9]
     ensures { result ≡ velocity_by_accel va rotation dt }
 {
     mat3::difference(va, mat3::scaled(rotation, dt))
 }
 
+#[tactic(auto, unfolding(crate::specs::Parts::rotation_by_gyro))]
 pub fn rotation_by_gyro(rg: [f64; 9], d: Increment, dt: f64) -> [f64; 9]
     ensures { result ≡ rotation_by_gyro rg d dt }
 {
@@ -142,6 +150,7 @@ pub fn rotation_by_gyro(rg: [f64; 9], d: Increment, dt: f64) -> [f64; 9]
     )
 }
 
+#[tactic(auto, unfolding(crate::specs::Parts::position_after))]
 fn position_after(position: [f64; 3], velocity: [f64; 3], u: [f64; 3], dt: f64) -> [f64; 3]
     ensures { result ≡ position_after position velocity u dt }
 {
@@ -151,6 +160,7 @@ fn position_after(position: [f64; 3], velocity: [f64; 3], u: [f64; 3], dt: f64) 
     )
 }
 
+#[tactic(auto, unfolding(crate::specs::Parts::velocity_after))]
 fn velocity_after(velocity: [f64; 3], u: [f64; 3], dt: f64) -> [f64; 3]
     ensures { result ≡ velocity_after velocity u dt }
 {
@@ -166,6 +176,7 @@ fn rotation_after(rotation: [f64; 9], d: Increment) -> [f64; 9]
 }
 
 // The motion after dt seconds of the acceleration a and the turn d. Every line uses values from before the step.
+#[tactic(auto, unfolding(crate::specs::Parts::motion_after))]
 pub fn motion_after(before: Motion, d: Increment, a: [f64; 3], dt: f64) -> Motion
     ensures { result ≡ motion_after before d a dt }
 {
