@@ -1,0 +1,28 @@
+-- `all_finite` meets its contract. The invariant: `yes` says whether the first n numbers are finite. The measure is the number of those left. Assumes nothing.
+use mathlib.Core.Path.{◌≡◌, refl, ◌∙◌}
+use mathlib.Core.Bool.{◌&&◌, and-true, and_assoc}
+use mathlib.Core.List.{List, [], ◌∷◌, ◌++◌}
+use Prim.Native.Nat.{◌-◌, ◌≤◌, ◌<◌}
+use native.Mathlib.Numerals.{add-one}
+use native.Mathlib.Omega.{arith}
+use borrow.Author.Rules.{rules}
+use lib.ListN.{length, take}
+use lib.Seq.{take-suc, take_all}
+use lib.Ieee.{Float, nan}
+use Rattle.number.specs.Float.{finite}
+use Rattle.mat9.specs.Matrix.{all_finite}
+use Rattle.mat9.proofs.all_finite.Goals as goal
+
+all-finite-more : (xs : List Float) (x : Float) → all_finite (xs ++ (x ∷ [])) ≡ (all_finite xs && finite x)
+unfolding all_finite
+all-finite-more [] x = and-true (finite x)
+all-finite-more (y ∷ ys) x = rw (all-finite-more ys x, and_assoc)
+
+-- UNMATCHED
+add-n : tie.Need-overflow-add-n invariant-loop decreases-loop
+add-n c = omega arith
+
+pub returns : goal.returns
+returns c =
+    let m = c.args.m.now in
+    c.loop-n.invariant.1 ∙ rw (take_all c.loop-n.n m (omega arith))

@@ -1,0 +1,20 @@
+-- `block3x3_to_9x9` meets its contract. The invariants: the columns before c are filled, and of column c the rows before r.
+-- The measures are the numbers of columns and of rows left. Assumes nothing.
+use mathlib.Core.Path.{refl}
+use Prim.Native.Nat.{◌-◌}
+use native.Mathlib.Omega.{arith}
+use Rattle.mat9.specs.Matrix.{blocks}
+use Rattle.mat9.proofs.Loops.{block_entry, FilledTo, filled_to_none, filled_to_more, filled_to_next, filled_to_done}
+use Rattle.mat9.proofs.block3x3_to_9x9.Given as goal
+
+abbrev pub invariant-loop-r : goal.invariant-loop-r
+invariant-loop-r l = FilledTo 9 (block_entry 3 l.parts) l.initial.out l.r l.c l.out
+
+abbrev pub decreases-loop-r : goal.decreases-loop-r
+decreases-loop-r l = 9 - l.r
+
+abbrev pub invariant-loop-c : goal.invariant-loop-c
+invariant-loop-c l = FilledTo 9 (block_entry 3 l.parts) l.out 0 l.c l.out
+
+abbrev pub decreases-loop-c : goal.decreases-loop-c
+decreases-loop-c l = 9 - l.c

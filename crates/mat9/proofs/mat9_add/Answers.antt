@@ -1,0 +1,19 @@
+-- `mat9_add` meets its contract. The invariant: the first n places are filled; place n is row n % 9 of column n / 9. The measure is the number of places left.
+-- Assumes nothing.
+use mathlib.Core.Path.{refl}
+use Prim.Native.Nat.{◌-◌}
+use native.Mathlib.Nat.{mod-add-div'}
+use native.Mathlib.Omega.{arith}
+use Rattle.number.specs.Float.{◌⊕◌}
+use Rattle.number.proofs.Filled.{Filled, filled_none, filled_more, filled_done}
+use Rattle.mat9.specs.Matrix.{entry, matrix, sum}
+use Rattle.mat9.proofs.Loops.{cell}
+use Rattle.mat9.proofs.mat9_add.Goals as goal
+
+-- UNMATCHED
+add-n : tie.Need-overflow-add-n invariant-loop decreases-loop
+add-n c = omega arith
+
+pub returns : goal.returns
+unfolding sum matrix
+returns c = filled_done c.loop-n.invariant (omega arith)

@@ -1,0 +1,17 @@
+-- `mat9_add` meets its contract. The invariant: the first n places are filled; place n is row n % 9 of column n / 9. The measure is the number of places left.
+-- Assumes nothing.
+use mathlib.Core.Path.{refl}
+use Prim.Native.Nat.{◌-◌}
+use native.Mathlib.Nat.{mod-add-div'}
+use native.Mathlib.Omega.{arith}
+use Rattle.number.specs.Float.{◌⊕◌}
+use Rattle.number.proofs.Filled.{Filled, filled_none, filled_more, filled_done}
+use Rattle.mat9.specs.Matrix.{entry, matrix, sum}
+use Rattle.mat9.proofs.Loops.{cell}
+use Rattle.mat9.proofs.mat9_add.Given as goal
+
+abbrev pub invariant-loop-n : goal.invariant-loop-n
+invariant-loop-n l = Filled 81 (cell 9 (λ i j. entry 9 l.a i j ⊕ entry 9 l.b i j)) l.initial.out l.n l.out
+
+abbrev pub decreases-loop-n : goal.decreases-loop-n
+decreases-loop-n l = 81 - l.n

@@ -1,0 +1,7 @@
+use Rattle.planar.specs.Compose.{turn_matrix}
+use borrow.Author.Rules.{rules}
+use Rattle.planar.proofs.formula.turn_matrix.Goals as goal
+
+pub returns : goal.returns
+unfolding turn_matrix
+returns c = rw (c.yaw.ensures, c.turn_of-v.ensures)
