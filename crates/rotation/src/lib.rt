@@ -21,6 +21,7 @@ pub struct Increment {
 }
 
 // The turn v: its axis times its angle.
+#[tactic(auto, unfolding(crate::specs::Rotation::increment_of))]
 pub fn increment_of(v: [f64; 3]) -> Increment
     ensures { result ≡ increment_of v }
 {
@@ -39,6 +40,7 @@ pub fn increment_of(v: [f64; 3]) -> Increment
 }
 
 // Below 1e-6 the closed forms cancel catastrophically, so the series stand in.
+#[tactic(auto, unfolding(crate::specs::Rotation::coefficients_of))]
 fn coefficients_of(square: f64, angle: f64) -> Coefficients
     ensures { result ≡ coefficients_of square angle }
 {
@@ -48,6 +50,7 @@ fn coefficients_of(square: f64, angle: f64) -> Coefficients
     closed_forms(square, angle)
 }
 
+#[tactic(auto, unfolding(crate::specs::Rotation::series_of))]
 fn series_of(square: f64) -> Coefficients
     ensures { result ≡ series_of square }
 {
@@ -59,6 +62,7 @@ fn series_of(square: f64) -> Coefficients
     }
 }
 
+#[tactic(auto, unfolding(crate::specs::Rotation::closed_forms))]
 fn closed_forms(square: f64, angle: f64) -> Coefficients
     ensures { result ≡ closed_forms square angle }
 {
@@ -80,6 +84,7 @@ pub fn hat_of(v: [f64; 3]) -> [f64; 9]
 }
 
 // I + A.H + B.H².
+#[tactic(auto, unfolding(crate::specs::Rotation::exp_by))]
 fn exp_by(k: Coefficients, h: [f64; 9], h2: [f64; 9]) -> [f64; 9]
     ensures { result ≡ exp_by k h h2 }
 {
@@ -90,6 +95,7 @@ fn exp_by(k: Coefficients, h: [f64; 9], h2: [f64; 9]) -> [f64; 9]
 }
 
 // I − B.H + C.H².
+#[tactic(auto, unfolding(crate::specs::Rotation::jacobian_by))]
 fn jacobian_by(k: Coefficients, h: [f64; 9], h2: [f64; 9]) -> [f64; 9]
     ensures { result ≡ jacobian_by k h h2 }
 {
@@ -100,6 +106,7 @@ fn jacobian_by(k: Coefficients, h: [f64; 9], h2: [f64; 9]) -> [f64; 9]
 }
 
 // The rotation nearest to what rounding has left of one: Gram and Schmidt's way on the first two columns, and their cross product.
+#[tactic(auto, unfolding(crate::specs::Rotation::normalized))]
 pub fn normalized(r: [f64; 9]) -> [f64; 9]
     ensures { result ≡ normalized_of r }
 {
@@ -108,6 +115,7 @@ pub fn normalized(r: [f64; 9]) -> [f64; 9]
     mat3::from_columns(e0, e1, vec3::cross(e0, e1))
 }
 
+#[tactic(auto, unfolding(crate::specs::Rotation::unit))]
 fn unit(v: [f64; 3]) -> [f64; 3]
     ensures { result ≡ unit_of v }
 {
@@ -115,6 +123,7 @@ fn unit(v: [f64; 3]) -> [f64; 3]
 }
 
 // v without its part along the unit vector e.
+#[tactic(auto, unfolding(crate::specs::Rotation::across))]
 fn across(v: [f64; 3], e: [f64; 3]) -> [f64; 3]
     ensures { result ≡ across_of v e }
 {

@@ -18,11 +18,12 @@ unfolding all_finite
 all-finite-more [] x = and-true (finite x)
 all-finite-more (y ∷ ys) x = rw (all-finite-more ys x, and_assoc)
 
--- UNMATCHED
-add-n : tie.Need-overflow-add-n invariant-loop decreases-loop
-add-n c = omega arith
+pub loop-n-init : goal.loop-n-init
+unfolding all_finite
+loop-n-init c = (omega arith, refl)
 
-pub returns : goal.returns
-returns c =
+pub loop-n-preserved : goal.loop-n-preserved
+loop-n-preserved c =
     let m = c.args.m.now in
-    c.loop-n.invariant.1 ∙ rw (take_all c.loop-n.n m (omega arith))
+    let h : c.loop-n.n < length m = omega arith in
+    (omega arith, rw (add-one, take-suc m c.loop-n.n nan h, all-finite-more, c.is_finite-yes.ensures, c.loop-n.invariant.1))

@@ -14,7 +14,4 @@ use Rattle.mat9.specs.Matrix.{all_finite}
 use Rattle.mat9.proofs.all_finite.Given as goal
 
 abbrev pub invariant-loop-n : goal.invariant-loop-n
-invariant-loop-n l = (l.n ≤ length l.m) × (l.yes' ≡ all_finite (take l.n l.m))
-
-abbrev pub decreases-loop-n : goal.decreases-loop-n
-decreases-loop-n l = length l.m - l.n
+invariant-loop-n l = (l.n ≤ length l.m) × (l.yes ≡ all_finite (take l.n l.m))

@@ -10,11 +10,5 @@ use Rattle.mat9.proofs.block3x2_to_9x6.Given as goal
 abbrev pub invariant-loop-r : goal.invariant-loop-r
 invariant-loop-r l = FilledTo 6 (block_entry 2 l.parts) l.initial.out l.r l.c l.out
 
-abbrev pub decreases-loop-r : goal.decreases-loop-r
-decreases-loop-r l = 9 - l.r
-
 abbrev pub invariant-loop-c : goal.invariant-loop-c
 invariant-loop-c l = FilledTo 6 (block_entry 2 l.parts) l.out 0 l.c l.out
-
-abbrev pub decreases-loop-c : goal.decreases-loop-c
-decreases-loop-c l = 6 - l.c

@@ -10,11 +10,5 @@ use Rattle.mat9.proofs.block3x3_to_9x9.Given as goal
 abbrev pub invariant-loop-r : goal.invariant-loop-r
 invariant-loop-r l = FilledTo 9 (block_entry 3 l.parts) l.initial.out l.r l.c l.out
 
-abbrev pub decreases-loop-r : goal.decreases-loop-r
-decreases-loop-r l = 9 - l.r
-
 abbrev pub invariant-loop-c : goal.invariant-loop-c
 invariant-loop-c l = FilledTo 9 (block_entry 3 l.parts) l.out 0 l.c l.out
-
-abbrev pub decreases-loop-c : goal.decreases-loop-c
-decreases-loop-c l = 9 - l.c

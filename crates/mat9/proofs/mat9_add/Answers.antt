@@ -10,10 +10,6 @@ use Rattle.mat9.specs.Matrix.{entry, matrix, sum}
 use Rattle.mat9.proofs.Loops.{cell}
 use Rattle.mat9.proofs.mat9_add.Goals as goal
 
--- UNMATCHED
-add-n : tie.Need-overflow-add-n invariant-loop decreases-loop
-add-n c = omega arith
-
 pub returns : goal.returns
 unfolding sum matrix
 returns c = filled_done c.loop-n.invariant (omega arith)

@@ -12,6 +12,3 @@ use Rattle.mat9.proofs.mat9_add.Given as goal
 
 abbrev pub invariant-loop-n : goal.invariant-loop-n
 invariant-loop-n l = Filled 81 (cell 9 (λ i j. entry 9 l.a i j ⊕ entry 9 l.b i j)) l.initial.out l.n l.out
-
-abbrev pub decreases-loop-n : goal.decreases-loop-n
-decreases-loop-n l = 81 - l.n

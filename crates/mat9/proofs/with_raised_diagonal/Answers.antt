@@ -10,4 +10,4 @@ use Rattle.mat9.proofs.with_raised_diagonal.Goals as goal
 
 pub returns : goal.returns
 unfolding diagonal_raised matrix tabulated
-returns c = let long : length c.args.t1 ≡ 36 = search rules in rw (tabulated_entries c.args.t1 nan long)
+returns c = let long : length c.args.m ≡ 36 = search rules in rw (tabulated_entries c.args.m nan long)

@@ -2,7 +2,6 @@
 use Prim.Native.Nat.{ℕ, ◌*◌, ◌-◌, ◌/◌, ◌≤◌, ◌^◌}
 use native.Mathlib.Nat.{mul-le-mul}
 use native.Mathlib.Omega.{arith}
-use borrow.Author.Rules.{rules}
 use Rattle.root.proofs.first_guess.Goals as goal
 
 square-of-short : (m : ℕ) → 2 ^ 52 ≤ m → (107000 - m / 274877906944) * (107000 - m / 274877906944) ≤ 90616 * 90616

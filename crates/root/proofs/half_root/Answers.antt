@@ -1,5 +1,4 @@
 -- `root::half_root` meets its contract. The invariant: m is below the square of s + 1, and s is at most 2 ^ 28. The measure is s. Assumes nothing.
-use Prim.Native.Nat.{◌+◌, ◌*◌, ◌^◌, ◌≤◌, ◌<◌}
 use native.Mathlib.Nat.{le_of_lt, le_trans, div-le_self}
 use native.Mathlib.Omega.{arith}
 use borrow.Author.Rules.{rules}

@@ -1,9 +1,7 @@
 -- `root::normalized` meets its contract. The invariant: m * 2 ^ j is what it was, and m has at most 53 binary digits and is not 0.
 -- So j is above 0 as long as the loop goes on, and it is the measure. Assumes nothing.
-use mathlib.Core.Path.{◌≡◌, refl, ◌∙◌}
+use mathlib.Core.Path.{◌≡◌}
 use Prim.Native.Nat.{◌*◌, ◌^◌, ◌≤◌, ◌<◌}
-use native.Mathlib.Omega.{arith}
-use Rattle.root.proofs.Halves.{large, some_left, doubled, even_square, odd_square}
 use Rattle.root.proofs.normalized.Given as goal
 
 abbrev pub invariant-loop-m : goal.invariant-loop-m

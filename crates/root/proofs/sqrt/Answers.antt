@@ -1,6 +1,5 @@
 -- `root::sqrt` meets its contract: the tests are the definition's, and what is left is finite and above zero, so that `positive_root` finds the one root.
 -- Assumes nothing.
-use borrow.Author.Tests.{not-false}
 use lib.Ieee.{nan_bits}
 use Rattle.root.specs.Root.{sqrt_of}
 use Rattle.root.proofs.Choice.{is_positive}
@@ -24,7 +23,7 @@ unfolding sqrt_of
 returns-then-not-x c = simp (c.if-x.false, c.if-x-inf.false, c.if-not-x.true)
 
 pub positive_root-requires : goal.positive_root-requires
-positive_root-requires c = is_positive c.args.x (not-false _ c.if-not-x.false) c.if-x-inf.false
+positive_root-requires c = is_positive c.args.x c.if-not-x.false c.if-x-inf.false
 
 pub returns : goal.returns
 unfolding sqrt_of

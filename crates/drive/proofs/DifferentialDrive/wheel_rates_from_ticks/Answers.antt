@@ -1,21 +1,9 @@
--- `wheel_rates_from_ticks` meets its contract: the tests in the order of the definition. `cN` is the place where test N was passed. Assumes nothing.
-  statement,
+-- `wheel_rates_from_ticks` meets its contract: the tests in the order of the definition. The differences are read back from their bits. Assumes nothing.
 use Rattle.drive.specs.Drive.{radians_per_tick, rates_asked, rates_from_ticks}
 use mathlib.Core.Path.{◌≡◌, sym}
 use mir.Syntax.{w64}
 use mir.ValLaws.{to_z-of_z}
-use borrow.Author.Rules.{rules}
 use Rattle.drive.proofs.DifferentialDrive.wheel_rates_from_ticks.Goals as goal
-
-}
-use Rattle.drive.proofs.DifferentialDrive.wheel_rates_from_ticks.Tie as tie
-
--- the rates are those of the differences that were handed in, which the machine reads back from their bits
-worked : (c : goal.After-rates_from_ticks-w) →
-    let a = c.args in
-    rates_from_ticks (radians_per_tick a.self) a.left a.right a.dt ≡ c.rates_from_ticks-w.result
-worked c =
-    sym (rw (c.radians_per_tick-per_tick.ensures, to_z-of_z w64 c.args.left c.ranges.left, to_z-of_z w64 c.args.right c.ranges.right) at c.rates_from_ticks-w.ensures)
 
 pub returns-then-not-is_valid : goal.returns-then-not-is_valid
 unfolding rates_asked
@@ -39,9 +27,9 @@ returns-then-dt-2 c =
 pub returns-then-not-is_finite-2 : goal.returns-then-not-is_finite-2
 unfolding rates_asked
 returns-then-not-is_finite-2 c =
-    rw (sym c.is_valid.ensures, c.if-not-is_valid.false, sym c.is_finite.ensures, c.if-not-is_finite.false, c.if-dt.false, c.if-dt-2.false, worked c, sym c.is_finite-2.ensures, sym c.is_finite-3.ensures, c.if-not-is_finite-2.true)
+    rw (sym c.is_valid.ensures, c.if-not-is_valid.false, sym c.is_finite.ensures, c.if-not-is_finite.false, c.if-dt.false, c.if-dt-2.false, sym (rw (c.radians_per_tick-per_tick.ensures, to_z-of_z w64 c.args.left c.ranges.left, to_z-of_z w64 c.args.right c.ranges.right) at c.rates_from_ticks-w.ensures), sym c.is_finite-2.ensures, sym c.is_finite-3.ensures, c.if-not-is_finite-2.true)
 
 pub returns : goal.returns
 unfolding rates_asked
 returns c =
-    rw (sym c.is_valid.ensures, c.if-not-is_valid.false, sym c.is_finite.ensures, c.if-not-is_finite.false, c.if-dt.false, c.if-dt-2.false, worked c, sym c.is_finite-2.ensures, sym c.is_finite-3.ensures, c.if-not-is_finite-2.false)
+    rw (sym c.is_valid.ensures, c.if-not-is_valid.false, sym c.is_finite.ensures, c.if-not-is_finite.false, c.if-dt.false, c.if-dt-2.false, sym (rw (c.radians_per_tick-per_tick.ensures, to_z-of_z w64 c.args.left c.ranges.left, to_z-of_z w64 c.args.right c.ranges.right) at c.rates_from_ticks-w.ensures), sym c.is_finite-2.ensures, sym c.is_finite-3.ensures, c.if-not-is_finite-2.false)
