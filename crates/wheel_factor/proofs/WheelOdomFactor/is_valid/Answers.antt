@@ -14,5 +14,5 @@ pub returns : goal.returns
 unfolding valid_factor
 returns c =
     let self = c.args.self in
-    let given = c.?is_given_lem.ensures ∙ ap (λ (t : Told (List Float)). is_given t.outcome) c.information-informed.ensures in
+    let given = c.is_given.ensures ∙ ap (λ (t : Told (List Float)). is_given t.outcome) c.information-informed.ensures in
     λ i. not (eqb self.from_idx self.to_idx) && c.is_valid.ensures i && c.is_finite.ensures i && c.is_finite-2.ensures i && given i
