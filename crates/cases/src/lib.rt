@@ -2,52 +2,73 @@
 // of the input every word is 0, which is the kind of no record. Out comes a line for each: its kind and words, as 16 hexadecimal digits behind a space.
 #![tactic(auto)]
 
+ghost use Rattle.std.specs.Prelude.{◌≡◌, ◌≤◌, length, take};
+ghost use Rattle.io.specs.Counts.{IsPrefixLen};
+
 use inertial::ImuCalib;
-use libc::{STDIN_FILENO, STDOUT_FILENO};
+use std::io;
+use std::io::Read;
 
-// ---- reading
+// ---- reading, from standard input; a read that fails counts as the end of the input
 
-pub fn read_word() -> u64 {
+// Reads until out is full or the input ends, and answers how many bytes stand at the front of out. Those behind them are left as they are.
+pub fn read_full(input: &mut impl Read, out: &mut [u8]) -> usize
+    ensures { IsPrefixLen result out.new }
+{
+    let mut done = 0;
+    while done < out.len() {
+        let Ok(more) = input.read(&mut out[done..]) else {
+            return done;
+        };
+        if more == 0 {
+            return done;
+        }
+        done += more;
+    }
+    done
+}
+
+pub fn read_word(rt: &impl Input) -> u64 {
     let mut s = [0u8; 8];
-    io::read_full(STDIN_FILENO, &mut s);
+    read_bytes(rt, &mut s);
     words::u64_at(&s, 0)
 }
 
 // Bytes past the end of the input are left as they are.
-pub fn read_bytes(out: &mut [u8]) {
-    io::read_full(STDIN_FILENO, out);
+pub fn read_bytes(rt: &impl Input, out: &mut [u8]) {
+    read_full(&mut rt.reader(), out);
 }
 
-pub fn read_f64() -> f64 {
-    words::of_bits(read_word())
+pub fn read_f64(rt: &impl Input) -> f64 {
+    words::of_bits(read_word(rt))
 }
 
-pub fn read_numbers(out: &mut [f64]) {
+pub fn read_numbers(rt: &impl Input, out: &mut [f64]) {
     let mut i = 0;
     while i < out.len() {
-        out[i] = read_f64();
+        out[i] = read_f64(rt);
         i += 1;
     }
 }
 
-pub fn read_three() -> [f64; 3] {
+pub fn read_three(rt: &impl Input) -> [f64; 3] {
     let mut out = [0.0; 3];
-    read_numbers(&mut out);
+    read_numbers(rt, &mut out);
     out
 }
 
 // A matrix, column by column.
-pub fn read_nine() -> [f64; 9] {
+pub fn read_nine(rt: &impl Input) -> [f64; 9] {
     let mut out = [0.0; 9];
-    read_numbers(&mut out);
+    read_numbers(rt, &mut out);
     out
 }
 
-pub fn read_calib() -> ImuCalib {
-    let gyro_noise = read_f64();
-    let accel_noise = read_f64();
-    let gyro_bias_noise = read_f64();
-    let accel_bias_noise = read_f64();
+pub fn read_calib(rt: &impl Input) -> ImuCalib {
+    let gyro_noise = read_f64(rt);
+    let accel_noise = read_f64(rt);
+    let gyro_bias_noise = read_f64(rt);
+    let accel_bias_noise = read_f64(rt);
     ImuCalib {
         gyro_noise,
         accel_noise,
@@ -56,40 +77,37 @@ pub fn read_calib() -> ImuCalib {
     }
 }
 
-// ---- printing
+// ---- printing, to standard output
 
-pub fn end_line() {
-    io::write_all(STDOUT_FILENO, b"\n");
+pub fn end_line(rt: &impl Print) -> io::Result<()> {
+    rt.print("\n")
 }
 
-pub fn print_word(word: u64) {
-    io::write_all(STDOUT_FILENO, b" ");
-    io::print_hex(STDOUT_FILENO, word, 16);
+pub fn print_word(rt: &impl Print, word: u64) -> io::Result<()> {
+    print!(rt; " {word:016x}")
 }
 
-pub fn print_numbers(xs: &[f64]) {
-    let mut i = 0;
-    while i < xs.len() {
-        print_word(words::to_bits(xs[i]));
-        i += 1;
+pub fn print_numbers(rt: &impl Print, xs: &[f64]) -> io::Result<()> {
+    for x in xs {
+        print_word(rt, words::to_bits(*x))?;
     }
+    Ok(())
 }
 
 // Numbers of a record that, from the kind 100 on, are held against others: these then stand in the input, behind a tolerance.
-pub fn print_near(kind: u64, xs: &[f64]) {
+pub fn print_near(rt: &(impl Input + Print), kind: u64, xs: &[f64]) -> io::Result<()> {
     if kind >= 100 {
-        print_held(xs, read_f64());
+        print_held(rt, xs, read_f64(rt))
     } else {
-        print_numbers(xs);
+        print_numbers(rt, xs)
     }
 }
 
-fn print_held(xs: &[f64], tolerance: f64) {
-    let mut i = 0;
-    while i < xs.len() {
-        print_word(words::to_bits(held(xs[i], read_f64(), tolerance)));
-        i += 1;
+fn print_held(rt: &(impl Input + Print), xs: &[f64], tolerance: f64) -> io::Result<()> {
+    for x in xs {
+        print_word(rt, words::to_bits(held(*x, read_f64(rt), tolerance)))?;
     }
+    Ok(())
 }
 
 // What x is held against, where the two are no further apart than the tolerance, else x. A tolerance below 0 is that of a heading, which counts modulo a turn.

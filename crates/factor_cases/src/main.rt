@@ -22,63 +22,68 @@ use planar::PlanarMotion;
 use robust::Huber;
 use stationary::{GyroMean, Joined, StationaryFactor, StationaryGyro};
 use stationary_information::{GyroRow, StationaryInfo};
+use std::io;
 use wheel_factor::{Extrinsic, WheelOdomFactor};
 use wheel_odom::{Information, Outcome, WheelOdomMeasurement};
 
-// A proved loop has to end, and nothing says that the input does. So the loop counts its turns down, from a number that no run uses up.
-fn main() {
-    let mut turns = u64::MAX;
-    while turns > 0 {
-        let kind = cases::read_word();
+// A proved loop has to end, and nothing says that the input does. So the loop has a number of turns that no run uses up.
+fn main(rt: HostRuntime) -> io::Result<()> {
+    for _ in 0..u64::MAX {
+        let kind = cases::read_word(&rt);
         if kind == 0 {
-            return;
+            return Ok(());
         }
-        cases::print_word(kind);
-        ask(kind);
-        cases::end_line();
-        turns -= 1;
+        cases::print_word(&rt, kind)?;
+        ask(&rt, kind)?;
+        cases::end_line(&rt)?;
     }
+    Ok(())
 }
 
-fn ask(kind: u64) {
+fn ask(rt: &(impl Input + Print), kind: u64) -> io::Result<()> {
     match kind % 100 {
-        2 => ask_measurements(),
-        3 => ask_information(kind),
-        4 => ask_composed(kind),
-        5 => print_factor(kind, read_factor()),
-        6 => ask_factor_valid(),
-        7 => ask_factors_composed(kind),
-        8 => ask_still_factor(),
-        9 => ask_still_information(),
-        10 => ask_still_composed(),
-        11 => ask_limits_joined(),
-        _ => cases::print_word(cases::read_word()),
+        2 => ask_measurements(rt),
+        3 => ask_information(rt, kind),
+        4 => ask_composed(rt, kind),
+        5 => print_factor(rt, kind, read_factor(rt)),
+        6 => ask_factor_valid(rt),
+        7 => ask_factors_composed(rt, kind),
+        8 => ask_still_factor(rt),
+        9 => ask_still_information(rt),
+        10 => ask_still_composed(rt),
+        11 => ask_limits_joined(rt),
+        _ => cases::print_word(rt, cases::read_word(rt)),
     }
 }
 
 // ---- wheel measurements and factors
 
-fn ask_measurements() {
-    let full = read_measurement();
+fn ask_measurements(rt: &(impl Input + Print)) -> io::Result<()> {
+    let full = read_measurement(rt);
     let delta = full.delta;
     let covariance = full.covariance;
     let plain = WheelOdomMeasurement::new(delta, covariance);
-    print_measurement(2, plain);
+    print_measurement(rt, 2, plain)?;
     print_measurement(
+        rt,
         2,
         plain.with_out_of_plane_sigmas(full.z_sigma, full.tilt_sigma),
-    );
-    print_measurement(2, WheelOdomMeasurement::from_motion(full.planar_motion()));
-    print_motion(2, full.planar_motion());
+    )?;
+    print_measurement(
+        rt,
+        2,
+        WheelOdomMeasurement::from_motion(full.planar_motion()),
+    )?;
+    print_motion(rt, 2, full.planar_motion())
 }
 
-fn ask_information(kind: u64) {
-    let m = read_measurement();
+fn ask_information(rt: &(impl Input + Print), kind: u64) -> io::Result<()> {
+    let m = read_measurement(rt);
     let informed = m.information();
     let outcome = informed.outcome;
     let matrix = informed.matrix;
-    cases::print_word(information_number(outcome));
-    cases::print_near(kind, &matrix);
+    cases::print_word(rt, information_number(outcome))?;
+    cases::print_near(rt, kind, &matrix)
 }
 
 fn information_number(outcome: Information) -> u64 {
@@ -90,47 +95,47 @@ fn information_number(outcome: Information) -> u64 {
     }
 }
 
-fn ask_composed(kind: u64) {
-    let first = read_measurement();
-    let composed = first.compose(read_measurement());
+fn ask_composed(rt: &(impl Input + Print), kind: u64) -> io::Result<()> {
+    let first = read_measurement(rt);
+    let composed = first.compose(read_measurement(rt));
     let outcome = composed.outcome;
-    print_outcome(outcome);
-    print_measurement(kind, composed.measurement);
+    print_outcome(rt, outcome)?;
+    print_measurement(rt, kind, composed.measurement)
 }
 
-fn ask_factor_valid() {
-    let f = read_factor();
-    cases::print_word(f.is_valid() as u64);
+fn ask_factor_valid(rt: &(impl Input + Print)) -> io::Result<()> {
+    let f = read_factor(rt);
+    cases::print_word(rt, f.is_valid() as u64)
 }
 
-fn ask_factors_composed(kind: u64) {
-    let first = read_factor();
-    let composed = first.compose(read_factor());
+fn ask_factors_composed(rt: &(impl Input + Print), kind: u64) -> io::Result<()> {
+    let first = read_factor(rt);
+    let composed = first.compose(read_factor(rt));
     let outcome = composed.outcome;
-    print_outcome(outcome);
-    print_factor(kind, composed.factor);
+    print_outcome(rt, outcome)?;
+    print_factor(rt, kind, composed.factor)
 }
 
 // ---- still factors, and limits
 
-fn ask_still_factor() {
-    let from_idx = cases::read_word() as usize;
-    let to_idx = cases::read_word() as usize;
-    let span_s = cases::read_f64();
-    let calib = cases::read_calib();
-    let gyro = read_gyro();
+fn ask_still_factor(rt: &(impl Input + Print)) -> io::Result<()> {
+    let from_idx = cases::read_word(rt) as usize;
+    let to_idx = cases::read_word(rt) as usize;
+    let span_s = cases::read_f64(rt);
+    let calib = cases::read_calib(rt);
+    let gyro = read_gyro(rt);
     let f = StationaryFactor::new(from_idx, to_idx, span_s, calib);
-    print_still(f);
-    print_still(f.with_gyro(gyro));
+    print_still(rt, f)?;
+    print_still(rt, f.with_gyro(gyro))
 }
 
-fn ask_still_information() {
-    let f = read_still();
+fn ask_still_information(rt: &(impl Input + Print)) -> io::Result<()> {
+    let f = read_still(rt);
     let informed = stationary_information::information(f);
     let outcome = informed.outcome;
-    cases::print_word(f.is_valid() as u64);
-    cases::print_word(still_number(outcome));
-    print_info(informed.info);
+    cases::print_word(rt, f.is_valid() as u64)?;
+    cases::print_word(rt, still_number(outcome))?;
+    print_info(rt, informed.info)
 }
 
 fn still_number(outcome: stationary_information::Outcome) -> u64 {
@@ -141,33 +146,33 @@ fn still_number(outcome: stationary_information::Outcome) -> u64 {
     }
 }
 
-fn ask_still_composed() {
-    let first = read_still();
-    match first.compose(read_still()) {
+fn ask_still_composed(rt: &(impl Input + Print)) -> io::Result<()> {
+    let first = read_still(rt);
+    match first.compose(read_still(rt)) {
         Joined::Factor(f) => {
-            cases::print_word(0);
-            print_still(f);
+            cases::print_word(rt, 0)?;
+            print_still(rt, f)
         }
-        Joined::InvalidFactor => cases::print_word(11),
-        Joined::NotJoined => cases::print_word(10),
-        Joined::NonFinite => cases::print_word(2),
+        Joined::InvalidFactor => cases::print_word(rt, 11),
+        Joined::NotJoined => cases::print_word(rt, 10),
+        Joined::NonFinite => cases::print_word(rt, 2),
     }
 }
 
-fn ask_limits_joined() {
-    let first = read_limit();
-    let joined = first.joined(read_limit());
-    print_limit(joined);
-    cases::print_word(joined.is_valid() as u64);
+fn ask_limits_joined(rt: &(impl Input + Print)) -> io::Result<()> {
+    let first = read_limit(rt);
+    let joined = first.joined(read_limit(rt));
+    print_limit(rt, joined)?;
+    cases::print_word(rt, joined.is_valid() as u64)
 }
 
 // ---- what a record holds
 
-fn read_measurement() -> WheelOdomMeasurement {
-    let delta = cases::read_three();
-    let covariance = cases::read_nine();
-    let z_sigma = cases::read_f64();
-    let tilt_sigma = cases::read_f64();
+fn read_measurement(rt: &impl Input) -> WheelOdomMeasurement {
+    let delta = cases::read_three(rt);
+    let covariance = cases::read_nine(rt);
+    let z_sigma = cases::read_f64(rt);
+    let tilt_sigma = cases::read_f64(rt);
     WheelOdomMeasurement {
         delta,
         covariance,
@@ -176,22 +181,22 @@ fn read_measurement() -> WheelOdomMeasurement {
     }
 }
 
-fn read_extrinsic() -> Extrinsic {
-    let rotation = cases::read_nine();
-    let translation = cases::read_three();
+fn read_extrinsic(rt: &impl Input) -> Extrinsic {
+    let rotation = cases::read_nine(rt);
+    let translation = cases::read_three(rt);
     Extrinsic {
         rotation,
         translation,
     }
 }
 
-fn read_factor() -> WheelOdomFactor {
-    let from_idx = cases::read_word() as usize;
-    let to_idx = cases::read_word() as usize;
-    let measurement = read_measurement();
-    let t_cb_from = read_extrinsic();
-    let t_cb_to = read_extrinsic();
-    let huber_chi2 = read_limit();
+fn read_factor(rt: &impl Input) -> WheelOdomFactor {
+    let from_idx = cases::read_word(rt) as usize;
+    let to_idx = cases::read_word(rt) as usize;
+    let measurement = read_measurement(rt);
+    let t_cb_from = read_extrinsic(rt);
+    let t_cb_to = read_extrinsic(rt);
+    let huber_chi2 = read_limit(rt);
     WheelOdomFactor::new(
         from_idx,
         to_idx,
@@ -202,9 +207,9 @@ fn read_factor() -> WheelOdomFactor {
     )
 }
 
-fn read_limit() -> Huber {
-    let is_there = cases::read_word() == 1;
-    let limit = cases::read_f64();
+fn read_limit(rt: &impl Input) -> Huber {
+    let is_there = cases::read_word(rt) == 1;
+    let limit = cases::read_f64(rt);
     if is_there {
         Huber::Limit(limit)
     } else {
@@ -212,16 +217,16 @@ fn read_limit() -> Huber {
     }
 }
 
-fn read_gyro() -> StationaryGyro {
-    let x = cases::read_f64();
-    let y = cases::read_f64();
-    let z = cases::read_f64();
-    StationaryGyro::new(x, y, z, cases::read_f64())
+fn read_gyro(rt: &impl Input) -> StationaryGyro {
+    let x = cases::read_f64(rt);
+    let y = cases::read_f64(rt);
+    let z = cases::read_f64(rt);
+    StationaryGyro::new(x, y, z, cases::read_f64(rt))
 }
 
-fn read_mean() -> GyroMean {
-    let is_there = cases::read_word() == 1;
-    let gyro = read_gyro();
+fn read_mean(rt: &impl Input) -> GyroMean {
+    let is_there = cases::read_word(rt) == 1;
+    let gyro = read_gyro(rt);
     if is_there {
         GyroMean::Measured(gyro)
     } else {
@@ -229,16 +234,16 @@ fn read_mean() -> GyroMean {
     }
 }
 
-fn read_still() -> StationaryFactor {
-    let from_idx = cases::read_word() as usize;
-    let to_idx = cases::read_word() as usize;
-    let span_s = cases::read_f64();
-    let gyro = read_mean();
-    let calib = cases::read_calib();
-    let translation_sigma_m = cases::read_f64();
-    let rotation_sigma_rad = cases::read_f64();
-    let velocity_sigma_m_s = cases::read_f64();
-    let huber_chi2 = read_limit();
+fn read_still(rt: &impl Input) -> StationaryFactor {
+    let from_idx = cases::read_word(rt) as usize;
+    let to_idx = cases::read_word(rt) as usize;
+    let span_s = cases::read_f64(rt);
+    let gyro = read_mean(rt);
+    let calib = cases::read_calib(rt);
+    let translation_sigma_m = cases::read_f64(rt);
+    let rotation_sigma_rad = cases::read_f64(rt);
+    let velocity_sigma_m_s = cases::read_f64(rt);
+    let huber_chi2 = read_limit(rt);
     StationaryFactor {
         from_idx,
         to_idx,
@@ -254,103 +259,116 @@ fn read_still() -> StationaryFactor {
 
 // ---- what a line holds
 
-fn print_outcome(outcome: Outcome) {
-    cases::print_word(match outcome {
-        Outcome::Accepted => 0,
-        Outcome::NonFinite => 2,
-        Outcome::AngleRange => 8,
-        Outcome::NotJoined => 10,
-    });
+fn print_outcome(rt: &impl Print, outcome: Outcome) -> io::Result<()> {
+    cases::print_word(
+        rt,
+        match outcome {
+            Outcome::Accepted => 0,
+            Outcome::NonFinite => 2,
+            Outcome::AngleRange => 8,
+            Outcome::NotJoined => 10,
+        },
+    )
 }
 
-fn print_motion(kind: u64, motion: PlanarMotion) {
+fn print_motion(rt: &(impl Input + Print), kind: u64, motion: PlanarMotion) -> io::Result<()> {
     let d = motion.delta;
     let covariance = motion.covariance;
-    cases::print_near(kind, &[d[0], d[1]]);
-    cases::print_near(kind, &[d[2]]);
-    cases::print_near(kind, &covariance);
+    cases::print_near(rt, kind, &[d[0], d[1]])?;
+    cases::print_near(rt, kind, &[d[2]])?;
+    cases::print_near(rt, kind, &covariance)
 }
 
-fn print_measurement(kind: u64, m: WheelOdomMeasurement) {
-    print_motion(kind, m.planar_motion());
-    cases::print_near(kind, &[m.z_sigma]);
-    cases::print_near(kind, &[m.tilt_sigma]);
+fn print_measurement(
+    rt: &(impl Input + Print),
+    kind: u64,
+    m: WheelOdomMeasurement,
+) -> io::Result<()> {
+    print_motion(rt, kind, m.planar_motion())?;
+    cases::print_near(rt, kind, &[m.z_sigma])?;
+    cases::print_near(rt, kind, &[m.tilt_sigma])
 }
 
-fn print_factor(kind: u64, f: WheelOdomFactor) {
+fn print_factor(rt: &(impl Input + Print), kind: u64, f: WheelOdomFactor) -> io::Result<()> {
     let measurement = f.measurement;
     let from = f.t_cb_from;
     let to = f.t_cb_to;
     let limit = f.huber_chi2;
-    cases::print_word(f.from_idx as u64);
-    cases::print_word(f.to_idx as u64);
-    print_measurement(kind, measurement);
-    print_extrinsic(from);
-    print_extrinsic(to);
-    print_limit(limit);
+    cases::print_word(rt, f.from_idx as u64)?;
+    cases::print_word(rt, f.to_idx as u64)?;
+    print_measurement(rt, kind, measurement)?;
+    print_extrinsic(rt, from)?;
+    print_extrinsic(rt, to)?;
+    print_limit(rt, limit)
 }
 
-fn print_extrinsic(t: Extrinsic) {
+fn print_extrinsic(rt: &impl Print, t: Extrinsic) -> io::Result<()> {
     let rotation = t.rotation;
     let translation = t.translation;
-    cases::print_numbers(&rotation);
-    cases::print_numbers(&translation);
+    cases::print_numbers(rt, &rotation)?;
+    cases::print_numbers(rt, &translation)
 }
 
-fn print_limit(limit: Huber) {
+fn print_limit(rt: &impl Print, limit: Huber) -> io::Result<()> {
     match limit {
-        Huber::Absent => cases::print_word(0),
+        Huber::Absent => cases::print_word(rt, 0),
         Huber::Limit(k) => {
-            cases::print_word(1);
-            cases::print_numbers(&[k]);
+            cases::print_word(rt, 1)?;
+            cases::print_numbers(rt, &[k])
         }
     }
 }
 
-fn print_still(f: StationaryFactor) {
+fn print_still(rt: &impl Print, f: StationaryFactor) -> io::Result<()> {
     let mean = f.gyro;
     let c = f.calib;
     let limit = f.huber_chi2;
-    cases::print_word(f.from_idx as u64);
-    cases::print_word(f.to_idx as u64);
-    cases::print_numbers(&[f.span_s]);
-    print_mean(mean);
-    cases::print_numbers(&[
-        c.gyro_noise,
-        c.accel_noise,
-        c.gyro_bias_noise,
-        c.accel_bias_noise,
-    ]);
-    cases::print_numbers(&[
-        f.translation_sigma_m,
-        f.rotation_sigma_rad,
-        f.velocity_sigma_m_s,
-    ]);
-    print_limit(limit);
+    cases::print_word(rt, f.from_idx as u64)?;
+    cases::print_word(rt, f.to_idx as u64)?;
+    cases::print_numbers(rt, &[f.span_s])?;
+    print_mean(rt, mean)?;
+    cases::print_numbers(
+        rt,
+        &[
+            c.gyro_noise,
+            c.accel_noise,
+            c.gyro_bias_noise,
+            c.accel_bias_noise,
+        ],
+    )?;
+    cases::print_numbers(
+        rt,
+        &[
+            f.translation_sigma_m,
+            f.rotation_sigma_rad,
+            f.velocity_sigma_m_s,
+        ],
+    )?;
+    print_limit(rt, limit)
 }
 
-fn print_mean(mean: GyroMean) {
+fn print_mean(rt: &impl Print, mean: GyroMean) -> io::Result<()> {
     match mean {
-        GyroMean::Unmeasured => cases::print_word(0),
-        GyroMean::Measured(g) => print_gyro(g),
+        GyroMean::Unmeasured => cases::print_word(rt, 0),
+        GyroMean::Measured(g) => print_gyro(rt, g),
     }
 }
 
-fn print_gyro(g: StationaryGyro) {
-    cases::print_word(1);
-    cases::print_numbers(&[g.x, g.y, g.z, g.covered_s]);
+fn print_gyro(rt: &impl Print, g: StationaryGyro) -> io::Result<()> {
+    cases::print_word(rt, 1)?;
+    cases::print_numbers(rt, &[g.x, g.y, g.z, g.covered_s])
 }
 
-fn print_info(info: StationaryInfo) {
+fn print_info(rt: &impl Print, info: StationaryInfo) -> io::Result<()> {
     let pose = info.pose;
     let row = info.gyro_mean;
-    cases::print_numbers(&pose);
-    cases::print_numbers(&[info.velocity, info.gyro_bias, info.accel_bias]);
+    cases::print_numbers(rt, &pose)?;
+    cases::print_numbers(rt, &[info.velocity, info.gyro_bias, info.accel_bias])?;
     match row {
-        GyroRow::NoRow => cases::print_word(0),
+        GyroRow::NoRow => cases::print_word(rt, 0),
         GyroRow::Row(g, information) => {
-            print_gyro(g);
-            cases::print_numbers(&[information]);
+            print_gyro(rt, g)?;
+            cases::print_numbers(rt, &[information])
         }
     }
 }

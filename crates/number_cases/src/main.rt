@@ -13,74 +13,74 @@
 
 use root::Root;
 use sincos::Turned;
+use std::io;
 
-// A proved loop has to end, and nothing says that the input does. So the loop counts its turns down, from a number that no run uses up.
-fn main() {
-    let mut turns = u64::MAX;
-    while turns > 0 {
-        let kind = cases::read_word();
+// A proved loop has to end, and nothing says that the input does. So the loop has a number of turns that no run uses up.
+fn main(rt: HostRuntime) -> io::Result<()> {
+    for _ in 0..u64::MAX {
+        let kind = cases::read_word(&rt);
         if kind == 0 {
-            return;
+            return Ok(());
         }
-        cases::print_word(kind);
-        ask(kind);
-        cases::end_line();
-        turns -= 1;
+        cases::print_word(&rt, kind)?;
+        ask(&rt, kind)?;
+        cases::end_line(&rt)?;
     }
+    Ok(())
 }
 
-fn ask(kind: u64) {
+fn ask(rt: &(impl Input + Print), kind: u64) -> io::Result<()> {
     match kind % 100 {
-        1 => cases::print_numbers(&[number::whole_to_f64(read_tick())]),
-        2 => ask_difference(),
-        3 => ask_root(),
-        4 => ask_turn(kind),
-        5 => ask_halvings(),
-        6 => ask_range(),
-        _ => cases::print_word(cases::read_word()),
+        1 => cases::print_numbers(rt, &[number::whole_to_f64(read_tick(rt))]),
+        2 => ask_difference(rt),
+        3 => ask_root(rt),
+        4 => ask_turn(rt, kind),
+        5 => ask_halvings(rt),
+        6 => ask_range(rt),
+        _ => cases::print_word(rt, cases::read_word(rt)),
     }
 }
 
-fn ask_difference() {
-    let width = cases::read_word();
-    let from = read_tick();
-    let difference = number::tick_difference(width, from, read_tick());
-    cases::print_word(number::tick::bits_of(difference));
+fn ask_difference(rt: &(impl Input + Print)) -> io::Result<()> {
+    let width = cases::read_word(rt);
+    let from = read_tick(rt);
+    let difference = number::tick_difference(width, from, read_tick(rt));
+    cases::print_word(rt, number::tick::bits_of(difference))
 }
 
-fn ask_range() {
-    let width = cases::read_word();
-    cases::print_word(number::tick_in_range(width, read_tick()) as u64);
+fn ask_range(rt: &(impl Input + Print)) -> io::Result<()> {
+    let width = cases::read_word(rt);
+    cases::print_word(rt, number::tick_in_range(width, read_tick(rt)) as u64)
 }
 
-fn ask_root() {
-    match root::sqrt(cases::read_f64()) {
+fn ask_root(rt: &(impl Input + Print)) -> io::Result<()> {
+    match root::sqrt(cases::read_f64(rt)) {
         Root::Value(r) => {
-            cases::print_word(0);
-            cases::print_numbers(&[r]);
+            cases::print_word(rt, 0)?;
+            cases::print_numbers(rt, &[r])
         }
-        Root::NonFinite => cases::print_word(2),
+        Root::NonFinite => cases::print_word(rt, 2),
     }
 }
 
-fn ask_turn(kind: u64) {
-    match sincos::sin_cos(cases::read_f64()) {
+fn ask_turn(rt: &(impl Input + Print), kind: u64) -> io::Result<()> {
+    match sincos::sin_cos(cases::read_f64(rt)) {
         Turned::Value(v) => {
-            cases::print_word(0);
-            cases::print_near(kind, &[v.sin]);
-            cases::print_near(kind, &[v.cos]);
+            cases::print_word(rt, 0)?;
+            cases::print_near(rt, kind, &[v.sin])?;
+            cases::print_near(rt, kind, &[v.cos])
         }
-        Turned::NonFinite => cases::print_word(2),
-        Turned::AngleRange => cases::print_word(8),
+        Turned::NonFinite => cases::print_word(rt, 2),
+        Turned::AngleRange => cases::print_word(rt, 8),
     }
 }
 
-fn ask_halvings() {
-    let h = number::halvings(cases::read_f64());
-    cases::print_word(h.count as u64);
-    cases::print_numbers(&[h.parts]);
+fn ask_halvings(rt: &(impl Input + Print)) -> io::Result<()> {
+    let h = number::halvings(cases::read_f64(rt));
+    cases::print_word(rt, h.count as u64)?;
+    cases::print_numbers(rt, &[h.parts])
 }
 
-fn read_tick() -> i64 {
-    number::tick::of_bits(cases::read_word())
+fn read_tick(rt: &impl Input) -> i64 {
+    number::tick::of_bits(cases::read_word(rt))
 }

@@ -30,6 +30,7 @@ pub fn reading_of(s: &[u8]) -> WheelMeasurement
     }
 }
 
+#[tactic(auto, unfolding(crate::specs::Records::content_of))]
 fn content_of(s: &[u8]) -> Reading
     ensures { result ≡ content_of s.now }
 {
@@ -40,6 +41,7 @@ fn content_of(s: &[u8]) -> Reading
 }
 
 // Whether the reading at the front keeps to the layout: every bit pattern of its numbers does.
+#[tactic(auto, unfolding(crate::specs::Records::sound_reading))]
 pub fn is_sound_reading(s: &[u8]) -> bool
     ensures { result ≡ sound_reading s.now }
 {

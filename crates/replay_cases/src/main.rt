@@ -4,46 +4,45 @@
 
 ghost use Rattle.io.specs.Counts.{IsPrefixLen};
 
-use libc::{STDIN_FILENO, STDOUT_FILENO};
+use std::io;
+use std::io::Read;
 
-fn main() {
-    replay_list();
+fn main(rt: HostRuntime) -> io::Result<()> {
+    replay_list(&rt)
 }
 
 // A proved loop has to end, and nothing says that the input does. So the loop ends at a number that no run reaches.
-fn replay_list() {
-    let mut i = 0;
-    while i < u64::MAX {
-        if !replay_next(i) {
-            return;
+fn replay_list(rt: &(impl Input + Print)) -> io::Result<()> {
+    for i in 0..u64::MAX {
+        if !replay_next(rt, i)? {
+            return Ok(());
         }
-        i += 1;
     }
+    Ok(())
 }
 
 // Log i, or false where the list ends. No log of the list is longer than 66,000 bytes.
-fn replay_next(i: u64) -> bool {
+fn replay_next(rt: &(impl Input + Print), i: u64) -> io::Result<bool> {
     let mut size = [0u8; 8];
-    if io::read_full(STDIN_FILENO, &mut size) < 8 {
-        return false;
+    if cases::read_full(&mut rt.reader(), &mut size) < 8 {
+        return Ok(false);
     }
     let mut log = [0u8; 66000];
-    let n = read_log(&mut log, words::u64_at(&size, 0));
-    io::write_all(STDOUT_FILENO, b"log ");
-    io::print_decimal(STDOUT_FILENO, i);
-    io::write_all(STDOUT_FILENO, b"\n");
-    let mut out = io::large_buffer();
+    let n = read_log(&mut rt.reader(), &mut log, words::u64_at(&size, 0));
+    println!(rt; "log {i}")?;
+    let mut out = [0u8; 65536];
     let r = log_lines::replay(&log[..n], &mut out);
-    io::write_all(STDOUT_FILENO, &out[..r])
+    rt.write_all(&out[..r])?;
+    Ok(true)
 }
 
 // The next size bytes, if buf has room for them.
-fn read_log(buf: &mut [u8], size: u64) -> usize
+fn read_log(input: &mut impl Read, buf: &mut [u8], size: u64) -> usize
     ensures { IsPrefixLen result buf.new }
 {
     let n = size as usize;
     if buf.len() < n {
         return 0;
     }
-    io::read_full(STDIN_FILENO, &mut buf[..n])
+    cases::read_full(input, &mut buf[..n])
 }

@@ -2,47 +2,48 @@
 #![tactic(auto)]
 
 use drive::{DifferentialDrive, Twisted};
-use libc::STDOUT_FILENO;
 use root::Root;
+use std::io;
 use wheel_odom::{Information, WheelOdomMeasurement};
 
-fn main() {
-    write(b"2^53+1 converts to ");
-    print_f64(number::whole_to_f64(9007199254740993));
-    write(b"2^63-1 converts to ");
-    print_f64(number::whole_to_f64(9223372036854775807));
-    write(b"the root of 2^-1074 is ");
-    print_root(words::of_bits(1));
-    write(b"from 2^63-1 to -2^63 it is ");
-    print_f64(number::whole_to_f64(number::tick_difference(
-        64,
-        9223372036854775807,
-        number::tick::of_bits(0x8000_0000_0000_0000),
-    )));
-    print_halvings(1.0);
-    print_halvings(1024.0);
-    print_halvings(words::of_bits(0x4090_0000_0000_0001));
-    print_twist();
-    print_information();
+fn main(rt: HostRuntime) -> io::Result<()> {
+    rt.print("2^53+1 converts to ")?;
+    print_f64(&rt, number::whole_to_f64(9007199254740993))?;
+    rt.print("2^63-1 converts to ")?;
+    print_f64(&rt, number::whole_to_f64(9223372036854775807))?;
+    rt.print("the root of 2^-1074 is ")?;
+    print_root(&rt, words::of_bits(1))?;
+    rt.print("from 2^63-1 to -2^63 it is ")?;
+    print_f64(
+        &rt,
+        number::whole_to_f64(number::tick_difference(
+            64,
+            9223372036854775807,
+            number::tick::of_bits(0x8000_0000_0000_0000),
+        )),
+    )?;
+    print_halvings(&rt, 1.0)?;
+    print_halvings(&rt, 1024.0)?;
+    print_halvings(&rt, words::of_bits(0x4090_0000_0000_0001))?;
+    print_twist(&rt)?;
+    print_information(&rt)
 }
 
-fn print_root(x: f64) {
+fn print_root(rt: &impl Print, x: f64) -> io::Result<()> {
     match root::sqrt(x) {
-        Root::Value(r) => print_f64(r),
-        Root::NonFinite => write(b"refused 2\n"),
+        Root::Value(r) => print_f64(rt, r),
+        Root::NonFinite => rt.println("refused 2"),
     }
 }
 
-fn print_halvings(ratio: f64) {
+fn print_halvings(rt: &impl Print, ratio: f64) -> io::Result<()> {
     let halved = number::halvings(ratio);
-    write(b"a ratio of ");
-    io::print_hex(STDOUT_FILENO, words::to_bits(ratio), 16);
-    write(b" gives ");
-    io::print_decimal(STDOUT_FILENO, halved.count as u64);
-    write(b"\n");
+    let bits = words::to_bits(ratio);
+    let count = halved.count;
+    println!(rt; "a ratio of {bits:016x} gives {count}")
 }
 
-fn print_twist() {
+fn print_twist(rt: &impl Print) -> io::Result<()> {
     let drive = DifferentialDrive {
         left_radius: 0.5,
         right_radius: 0.5,
@@ -52,34 +53,30 @@ fn print_twist() {
     };
     match drive.twist(1.0, 2.0) {
         Twisted::Twist(v) => {
-            write(b"vx ");
-            print_f64(v.vx);
-            write(b"wz ");
-            print_f64(v.wz);
+            rt.print("vx ")?;
+            print_f64(rt, v.vx)?;
+            rt.print("wz ")?;
+            print_f64(rt, v.wz)
         }
-        Twisted::Refused(_) => write(b"refused\n"),
+        Twisted::Refused(_) => rt.println("refused"),
     }
 }
 
-fn print_information() {
+fn print_information(rt: &impl Print) -> io::Result<()> {
     let covariance = mat3::diagonal(-1.0, -1.0, 1.0);
     let m = WheelOdomMeasurement::new([0.0, 0.0, 0.0], covariance);
     let informed = m.information();
     let outcome = informed.outcome;
-    write(b"diag(-1,-1,1) gives ");
+    rt.print("diag(-1,-1,1) gives ")?;
     match outcome {
-        Information::Given => write(b"a matrix\n"),
-        Information::NoInformation => write(b"9\n"),
-        Information::AngleRange => write(b"8\n"),
-        Information::NonFinite => write(b"2\n"),
+        Information::Given => rt.println("a matrix"),
+        Information::NoInformation => rt.println("9"),
+        Information::AngleRange => rt.println("8"),
+        Information::NonFinite => rt.println("2"),
     }
 }
 
-fn print_f64(x: f64) {
-    io::print_hex(STDOUT_FILENO, words::to_bits(x), 16);
-    write(b"\n");
-}
-
-fn write(text: &[u8]) {
-    io::write_all(STDOUT_FILENO, text);
+fn print_f64(rt: &impl Print, x: f64) -> io::Result<()> {
+    let bits = words::to_bits(x);
+    println!(rt; "{bits:016x}")
 }

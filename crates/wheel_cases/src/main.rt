@@ -32,144 +32,163 @@ use drive::{
 use interval::Accumulated;
 use kept::KeptValues;
 use planar::PlanarMotion;
+use std::io;
 use step_order::Outcome;
 use wheel::{Last, Settings, WheelPreintegration};
 
-// A proved loop has to end, and nothing says that the input does. So the loop counts its turns down, from a number that no run uses up.
-fn main() {
+// A proved loop has to end, and nothing says that the input does. So the loop has a number of turns that no run uses up.
+fn main(rt: HostRuntime) -> io::Result<()> {
     let none = WheelPreintegration::new(DifferentialDrive::BLANK, WheelNoise::BLANK);
     let mut state = none.state;
-    let mut turns = u64::MAX;
-    while turns > 0 {
-        let kind = cases::read_word();
+    for _ in 0..u64::MAX {
+        let kind = cases::read_word(&rt);
         if kind == 0 {
-            return;
+            return Ok(());
         }
-        cases::print_word(kind);
-        state = after_record(kind, state);
-        print_after(kind, state);
-        cases::end_line();
-        turns -= 1;
+        cases::print_word(&rt, kind)?;
+        state = after_record(&rt, kind, state)?;
+        print_after(&rt, kind, state)?;
+        cases::end_line(&rt)?;
     }
+    Ok(())
 }
 
-fn after_record(kind: u64, before: WheelPreintegration) -> WheelPreintegration {
+fn after_record(
+    rt: &(impl Input + Print),
+    kind: u64,
+    before: WheelPreintegration,
+) -> io::Result<WheelPreintegration> {
     let call = kind % 100;
     match call {
-        2 | 3 => begun(call),
-        4 | 5 => stepped(call, before),
-        6 => restarted(before),
-        7 => read_state(kind),
-        12 => changed(before),
-        13 => ran(before),
-        _ => before,
+        2 | 3 => begun(rt, call),
+        4 | 5 => stepped(rt, call, before),
+        6 => restarted(rt, before),
+        7 => Ok(read_state(rt, kind)),
+        12 => changed(rt, before),
+        13 => ran(rt, before),
+        _ => Ok(before),
     }
 }
 
-fn print_after(kind: u64, state: WheelPreintegration) {
+fn print_after(rt: &(impl Input + Print), kind: u64, state: WheelPreintegration) -> io::Result<()> {
     let call = kind % 100;
     let settings = state.settings;
     if (call < 2) | (7 < call) & (call < 12) {
-        return ask(kind, settings.drive, state.motion());
+        return ask(rt, kind, settings.drive, state.motion());
     }
-    print_state(kind, state)
+    print_state(rt, kind, state)
 }
 
 // ---- the calls that give a state
 
-fn begun(call: u64) -> WheelPreintegration {
-    let drive = read_drive();
-    let made = WheelPreintegration::new(drive, read_noise(call));
+fn begun(rt: &(impl Input + Print), call: u64) -> io::Result<WheelPreintegration> {
+    let drive = read_drive(rt);
+    let made = WheelPreintegration::new(drive, read_noise(rt, call));
     let outcome = made.outcome;
-    print_outcome(outcome);
-    made.state
+    print_outcome(rt, outcome)?;
+    Ok(made.state)
 }
 
-fn stepped(call: u64, before: WheelPreintegration) -> WheelPreintegration {
-    let answer = before.integrate(read_measurement(call));
+fn stepped(
+    rt: &(impl Input + Print),
+    call: u64,
+    before: WheelPreintegration,
+) -> io::Result<WheelPreintegration> {
+    let answer = before.integrate(read_measurement(rt, call));
     let outcome = answer.outcome;
-    print_outcome(outcome);
-    answer.state
+    print_outcome(rt, outcome)?;
+    Ok(answer.state)
 }
 
-fn restarted(before: WheelPreintegration) -> WheelPreintegration {
-    cases::print_word(0);
-    before.restart()
+fn restarted(
+    rt: &(impl Input + Print),
+    before: WheelPreintegration,
+) -> io::Result<WheelPreintegration> {
+    cases::print_word(rt, 0)?;
+    Ok(before.restart())
 }
 
-fn changed(before: WheelPreintegration) -> WheelPreintegration {
-    let drive = read_drive();
-    let answer = before.change(drive, read_noise(2));
+fn changed(
+    rt: &(impl Input + Print),
+    before: WheelPreintegration,
+) -> io::Result<WheelPreintegration> {
+    let drive = read_drive(rt);
+    let answer = before.change(drive, read_noise(rt, 2));
     let outcome = answer.outcome;
-    print_outcome(outcome);
-    answer.state
+    print_outcome(rt, outcome)?;
+    Ok(answer.state)
 }
 
-fn ran(before: WheelPreintegration) -> WheelPreintegration {
+fn ran(rt: &(impl Input + Print), before: WheelPreintegration) -> io::Result<WheelPreintegration> {
     let mut events = [0u8; 520];
-    cases::read_bytes(&mut events);
+    cases::read_bytes(rt, &mut events);
     let ran = runs::run(before, &events);
-    cases::print_word(ran.accepted as u64);
-    ran.state
+    cases::print_word(rt, ran.accepted as u64)?;
+    Ok(ran.state)
 }
 
 // ---- what is asked, and leaves the state
 
-fn ask(kind: u64, drive: DifferentialDrive, stored: PlanarMotion) {
+fn ask(
+    rt: &(impl Input + Print),
+    kind: u64,
+    drive: DifferentialDrive,
+    stored: PlanarMotion,
+) -> io::Result<()> {
     match kind % 100 {
-        8 => ask_twist(kind, drive),
-        9 => ask_rates(drive),
-        10 => ask_jacobian(drive),
-        11 => ask_composed(kind, stored),
-        _ => cases::print_word(cases::read_word()),
+        8 => ask_twist(rt, kind, drive),
+        9 => ask_rates(rt, drive),
+        10 => ask_jacobian(rt, drive),
+        11 => ask_composed(rt, kind, stored),
+        _ => cases::print_word(rt, cases::read_word(rt)),
     }
 }
 
-fn ask_twist(kind: u64, drive: DifferentialDrive) {
-    let left = cases::read_f64();
-    let right = cases::read_f64();
+fn ask_twist(rt: &(impl Input + Print), kind: u64, drive: DifferentialDrive) -> io::Result<()> {
+    let left = cases::read_f64(rt);
+    let right = cases::read_f64(rt);
     match drive.twist(left, right) {
         Twisted::Twist(v) => {
-            cases::print_word(0);
-            cases::print_near(kind, &[v.vx]);
-            cases::print_numbers(&[v.vy]);
-            cases::print_near(kind, &[v.wz]);
+            cases::print_word(rt, 0)?;
+            cases::print_near(rt, kind, &[v.vx])?;
+            cases::print_numbers(rt, &[v.vy])?;
+            cases::print_near(rt, kind, &[v.wz])
         }
-        Twisted::Refused(why) => print_refusal(why),
+        Twisted::Refused(why) => print_refusal(rt, why),
     }
 }
 
-fn ask_rates(drive: DifferentialDrive) {
-    let left = read_tick();
-    let right = read_tick();
-    match drive.wheel_rates_from_ticks(left, right, cases::read_f64()) {
+fn ask_rates(rt: &(impl Input + Print), drive: DifferentialDrive) -> io::Result<()> {
+    let left = read_tick(rt);
+    let right = read_tick(rt);
+    match drive.wheel_rates_from_ticks(left, right, cases::read_f64(rt)) {
         Rated::Rates(w) => {
-            cases::print_word(0);
-            cases::print_numbers(&[w.left, w.right]);
+            cases::print_word(rt, 0)?;
+            cases::print_numbers(rt, &[w.left, w.right])
         }
-        Rated::Refused(why) => print_refusal(why),
+        Rated::Refused(why) => print_refusal(rt, why),
     }
 }
 
-fn ask_jacobian(drive: DifferentialDrive) {
+fn ask_jacobian(rt: &(impl Input + Print), drive: DifferentialDrive) -> io::Result<()> {
     match drive.twist_jacobian() {
         Jacobian::Columns(c) => {
             let left = c.left;
             let right = c.right;
-            cases::print_word(0);
-            print_twist(left);
-            print_twist(right);
+            cases::print_word(rt, 0)?;
+            print_twist(rt, left)?;
+            print_twist(rt, right)
         }
-        Jacobian::Refused(why) => print_refusal(why),
+        Jacobian::Refused(why) => print_refusal(rt, why),
     }
 }
 
 // The stored motion, then the record's.
-fn ask_composed(kind: u64, stored: PlanarMotion) {
-    let composed = stored.compose(read_motion());
+fn ask_composed(rt: &(impl Input + Print), kind: u64, stored: PlanarMotion) -> io::Result<()> {
+    let composed = stored.compose(read_motion(rt));
     let outcome = composed.outcome;
-    cases::print_word(number_of(outcome));
-    print_motion(kind, composed.motion);
+    cases::print_word(rt, number_of(outcome))?;
+    print_motion(rt, kind, composed.motion)
 }
 
 fn number_of(outcome: planar::Outcome) -> u64 {
@@ -182,12 +201,12 @@ fn number_of(outcome: planar::Outcome) -> u64 {
 
 // ---- what a record holds behind its kind
 
-fn read_drive() -> DifferentialDrive {
-    let left_radius = cases::read_f64();
-    let right_radius = cases::read_f64();
-    let track_width = cases::read_f64();
-    let ticks_per_revolution = cases::read_f64();
-    let counter_width = cases::read_word();
+fn read_drive(rt: &impl Input) -> DifferentialDrive {
+    let left_radius = cases::read_f64(rt);
+    let right_radius = cases::read_f64(rt);
+    let track_width = cases::read_f64(rt);
+    let ticks_per_revolution = cases::read_f64(rt);
+    let counter_width = cases::read_word(rt);
     DifferentialDrive {
         left_radius,
         right_radius,
@@ -197,31 +216,31 @@ fn read_drive() -> DifferentialDrive {
     }
 }
 
-fn read_noise(call: u64) -> WheelNoise {
+fn read_noise(rt: &impl Input, call: u64) -> WheelNoise {
     if call == 3 {
         return WheelNoise::DEFAULT;
     }
-    let wheel_rate = cases::read_f64();
-    let lateral_velocity = cases::read_f64();
+    let wheel_rate = cases::read_f64(rt);
+    let lateral_velocity = cases::read_f64(rt);
     WheelNoise {
         wheel_rate,
         lateral_velocity,
     }
 }
 
-fn read_motion() -> PlanarMotion {
-    let delta = cases::read_three();
-    let covariance = cases::read_nine();
+fn read_motion(rt: &impl Input) -> PlanarMotion {
+    let delta = cases::read_three(rt);
+    let covariance = cases::read_nine(rt);
     PlanarMotion { delta, covariance }
 }
 
-fn read_state(kind: u64) -> WheelPreintegration {
-    let drive = read_drive();
-    let noise = read_noise(2);
-    let kept = read_kept(kind, drive, noise);
-    let motion = read_motion();
-    let dt = cases::read_f64();
-    let last = read_last(cases::read_word());
+fn read_state(rt: &impl Input, kind: u64) -> WheelPreintegration {
+    let drive = read_drive(rt);
+    let noise = read_noise(rt, 2);
+    let kept = read_kept(rt, kind, drive, noise);
+    let motion = read_motion(rt);
+    let dt = cases::read_f64(rt);
+    let last = read_last(rt, cases::read_word(rt));
     WheelPreintegration {
         settings: Settings { drive, noise },
         kept,
@@ -230,29 +249,34 @@ fn read_state(kind: u64) -> WheelPreintegration {
     }
 }
 
-fn read_kept(kind: u64, drive: DifferentialDrive, noise: WheelNoise) -> KeptValues {
+fn read_kept(
+    rt: &impl Input,
+    kind: u64,
+    drive: DifferentialDrive,
+    noise: WheelNoise,
+) -> KeptValues {
     if kind < 200 {
         return kept::kept_of(drive, noise);
     }
-    let rate_noise = cases::read_nine();
-    let radians_per_tick = cases::read_f64();
+    let rate_noise = cases::read_nine(rt);
+    let radians_per_tick = cases::read_f64(rt);
     KeptValues {
         rate_noise,
         radians_per_tick,
     }
 }
 
-fn read_last(call: u64) -> Last {
+fn read_last(rt: &impl Input, call: u64) -> Last {
     if call == 0 {
         return Last::Nothing;
     }
-    Last::At(read_measurement(call))
+    Last::At(read_measurement(rt, call))
 }
 
-fn read_measurement(call: u64) -> WheelMeasurement {
-    let valid = cases::read_word() == 1;
-    let timestamp = cases::read_f64();
-    let reading = read_reading(call);
+fn read_measurement(rt: &impl Input, call: u64) -> WheelMeasurement {
+    let valid = cases::read_word(rt) == 1;
+    let timestamp = cases::read_f64(rt);
+    let reading = read_reading(rt, call);
     WheelMeasurement {
         timestamp,
         reading,
@@ -260,105 +284,109 @@ fn read_measurement(call: u64) -> WheelMeasurement {
     }
 }
 
-fn read_reading(call: u64) -> Reading {
+fn read_reading(rt: &impl Input, call: u64) -> Reading {
     if call == 4 {
-        let left = read_tick();
-        return Reading::Ticks(left, read_tick());
+        let left = read_tick(rt);
+        return Reading::Ticks(left, read_tick(rt));
     }
-    let left = cases::read_f64();
-    Reading::AngularVelocity(left, cases::read_f64())
+    let left = cases::read_f64(rt);
+    Reading::AngularVelocity(left, cases::read_f64(rt))
 }
 
-fn read_tick() -> i64 {
-    number::tick::of_bits(cases::read_word())
+fn read_tick(rt: &impl Input) -> i64 {
+    number::tick::of_bits(cases::read_word(rt))
 }
 
 // ---- what a line holds
 
-fn print_outcome(outcome: Outcome) {
+fn print_outcome(rt: &impl Print, outcome: Outcome) -> io::Result<()> {
     match outcome {
-        Outcome::Accepted => cases::print_word(0),
-        Outcome::Refused(why) => print_refusal(why),
+        Outcome::Accepted => cases::print_word(rt, 0),
+        Outcome::Refused(why) => print_refusal(rt, why),
     }
 }
 
-fn print_refusal(why: Refusal) {
-    cases::print_word(why.number());
+fn print_refusal(rt: &impl Print, why: Refusal) -> io::Result<()> {
+    cases::print_word(rt, why.number())?;
     match why {
-        Refusal::OutOfOrder(time, last) => cases::print_numbers(&[time, last]),
-        Refusal::Duplicate(time) => cases::print_numbers(&[time]),
-        _ => (),
+        Refusal::OutOfOrder(time, last) => cases::print_numbers(rt, &[time, last]),
+        Refusal::Duplicate(time) => cases::print_numbers(rt, &[time]),
+        _ => Ok(()),
     }
 }
 
-fn print_state(kind: u64, state: WheelPreintegration) {
+fn print_state(rt: &(impl Input + Print), kind: u64, state: WheelPreintegration) -> io::Result<()> {
     let settings = state.settings;
     let last = state.last;
     let kept = state.kept;
-    print_settings(settings);
-    print_kept(kind, kept);
-    print_motion(kind % 200, state.motion());
-    cases::print_numbers(&[state.dt()]);
-    print_last(last);
+    print_settings(rt, settings)?;
+    print_kept(rt, kind, kept)?;
+    print_motion(rt, kind % 200, state.motion())?;
+    cases::print_numbers(rt, &[state.dt()])?;
+    print_last(rt, last)
 }
 
-fn print_settings(settings: Settings) {
+fn print_settings(rt: &impl Print, settings: Settings) -> io::Result<()> {
     let d = settings.drive;
     let n = settings.noise;
-    cases::print_numbers(&[
-        d.left_radius,
-        d.right_radius,
-        d.track_width,
-        d.ticks_per_revolution,
-    ]);
-    cases::print_word(d.counter_width);
-    cases::print_numbers(&[n.wheel_rate, n.lateral_velocity]);
+    cases::print_numbers(
+        rt,
+        &[
+            d.left_radius,
+            d.right_radius,
+            d.track_width,
+            d.ticks_per_revolution,
+        ],
+    )?;
+    cases::print_word(rt, d.counter_width)?;
+    cases::print_numbers(rt, &[n.wheel_rate, n.lateral_velocity])
 }
 
-fn print_kept(kind: u64, kept: KeptValues) {
+fn print_kept(rt: &impl Print, kind: u64, kept: KeptValues) -> io::Result<()> {
     let rate_noise = kept.rate_noise;
     if 200 <= kind {
-        cases::print_numbers(&rate_noise);
-        cases::print_numbers(&[kept.radians_per_tick]);
+        cases::print_numbers(rt, &rate_noise)?;
+        cases::print_numbers(rt, &[kept.radians_per_tick])?;
     }
+    Ok(())
 }
 
-fn print_motion(kind: u64, motion: PlanarMotion) {
+fn print_motion(rt: &(impl Input + Print), kind: u64, motion: PlanarMotion) -> io::Result<()> {
     let d = motion.delta;
     let covariance = motion.covariance;
-    cases::print_near(kind, &[d[0], d[1]]);
-    cases::print_near(kind, &[d[2]]);
-    cases::print_near(kind, &covariance);
+    cases::print_near(rt, kind, &[d[0], d[1]])?;
+    cases::print_near(rt, kind, &[d[2]])?;
+    cases::print_near(rt, kind, &covariance)
 }
 
-fn print_last(last: Last) {
+fn print_last(rt: &impl Print, last: Last) -> io::Result<()> {
     match last {
-        Last::Nothing => cases::print_word(0),
-        Last::At(m) => print_measurement(m),
+        Last::Nothing => cases::print_word(rt, 0),
+        Last::At(m) => print_measurement(rt, m),
     }
 }
 
-fn print_measurement(m: WheelMeasurement) {
+fn print_measurement(rt: &impl Print, m: WheelMeasurement) -> io::Result<()> {
     let reading = m.reading;
     match reading {
         Reading::Ticks(left, right) => {
-            print_stamp(4, m);
-            cases::print_word(number::tick::bits_of(left));
-            cases::print_word(number::tick::bits_of(right));
+            print_stamp(rt, 4, m)?;
+            cases::print_word(rt, number::tick::bits_of(left))?;
+            cases::print_word(rt, number::tick::bits_of(right))
         }
         Reading::AngularVelocity(left, right) => {
-            print_stamp(5, m);
-            cases::print_numbers(&[left, right]);
+            print_stamp(rt, 5, m)?;
+            cases::print_numbers(rt, &[left, right])
         }
     }
 }
 
-fn print_stamp(kind: u64, m: WheelMeasurement) {
-    cases::print_word(kind);
-    cases::print_word(m.valid as u64);
-    cases::print_numbers(&[m.timestamp]);
+fn print_stamp(rt: &impl Print, kind: u64, m: WheelMeasurement) -> io::Result<()> {
+    cases::print_word(rt, kind)?;
+    cases::print_word(rt, m.valid as u64)?;
+    cases::print_numbers(rt, &[m.timestamp])
 }
 
-fn print_twist(v: BodyTwist) {
-    cases::print_numbers(&[v.vx, v.vy, v.wz]);
+fn print_twist(rt: &impl Print, v: BodyTwist) -> io::Result<()> {
+    cases::print_numbers(rt, &[v.vx, v.vy, v.wz])
 }

@@ -80,7 +80,7 @@ pub fn f64_at(s: &[u8], i: usize) -> f64
 
 // The f64 whose bits are v; of a NaN's pattern, NaN.
 pub fn of_bits(v: u64) -> f64
-    ensures { result ≡ ofPattern binary64 v }
+    ensures { result ≡ of_pattern binary64 v }
 {
     if 0x7ff0_0000_0000_0000 < v % 0x8000_0000_0000_0000 {
         0.0 / 0.0
@@ -91,7 +91,7 @@ pub fn of_bits(v: u64) -> f64
 
 // The bits of x; of a NaN, 7ff8000000000000.
 pub fn to_bits(x: f64) -> u64
-    ensures { result ≡ toPattern binary64 x }
+    ensures { result ≡ to_pattern binary64 x }
 {
     if x != x {
         return 0x7ff8_0000_0000_0000;

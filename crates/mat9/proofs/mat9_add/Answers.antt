@@ -10,6 +10,12 @@ use Rattle.mat9.specs.Matrix.{entry, matrix, sum}
 use Rattle.mat9.proofs.Loops.{cell}
 use Rattle.mat9.proofs.mat9_add.Goals as goal
 
+pub loop-n-init : goal.loop-n-init
+loop-n-init c = filled_none refl
+
+pub loop-n-preserved : goal.loop-n-preserved
+loop-n-preserved c = filled_more c.loop-n.invariant (omega arith) (rw mod-add-div')
+
 pub returns : goal.returns
 unfolding sum matrix
 returns c = filled_done c.loop-n.invariant (omega arith)

@@ -1,6 +1,5 @@
--- `words::present_at` meets its contract: the law of each turn, for every width, is `proofs/Width.antt`'s. Assumes nothing.
-use native.Mathlib.Omega.{arith}
-use Rattle.words.proofs.Width.{Taken, taken_none, taken_more, taken_fits, taken_all}
+-- The loop of `words::present_at` has taken in the bytes from the k-th on, and k falls. Assumes nothing.
+use Rattle.words.proofs.Width.{Taken}
 use Rattle.words.proofs.present_at.Given as goal
 
 abbrev pub invariant-loop-k : goal.invariant-loop-k
