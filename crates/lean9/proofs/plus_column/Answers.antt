@@ -1,0 +1,13 @@
+-- `plus_column` meets its contract. The invariant: the first r sums are made. The measure is the number of rows left. Assumes nothing.
+use Prim.Native.Nat.{◌-◌}
+use native.Mathlib.Omega.{arith}
+use borrow.Author.Rules.{rules}
+use lib.ListN.{get_or}
+use lib.Ieee.{nan}
+use Rattle.number.specs.Float.{◌⊕◌, ◌⊗◌}
+use Rattle.number.proofs.Filled.{Filled, filled_none, filled_more, filled_done}
+use Rattle.mat9.specs.Matrix.{entry}
+use Rattle.lean9.proofs.plus_column.Goals as goal
+
+pub returns : goal.returns
+returns c = filled_done c.loop-r.invariant (omega arith)

@@ -1,0 +1,7 @@
+use Rattle.wheel_odom.specs.Measurement.{finite_measurement}
+use borrow.Author.Rules.{rules}
+use Rattle.wheel_odom.proofs.WheelOdomMeasurement.is_finite.Goals as goal
+
+pub returns : goal.returns
+unfolding finite_measurement
+returns c = cc
