@@ -29,6 +29,7 @@ impl PreintegratedImu {
         d_position_d_bias_accel: [0.0, 0.0, 0.0, 0.0, 0.0, 0.0, 0.0, 0.0, 0.0],
     };
 
+    #[tactic(auto, unfolding(crate::specs::State::make_of))]
     pub fn new(bias: ImuBias, calib: ImuCalib) -> Integrated
         ensures { told_integrated result ≡ make_of bias calib }
     {
@@ -46,6 +47,7 @@ impl PreintegratedImu {
 
     // Widens the random walk of the biases by some seconds beyond the time integrated: for an edge whose bias link also covers time outside its
     // samples, such as a still stretch before it. Seconds that are not finite or not above 0 change nothing.
+    #[tactic(auto, unfolding(crate::specs::State::widened_of))]
     pub fn widen_bias_walk(self, seconds: f64) -> Integrated
         ensures { told_integrated result ≡ widened_of self seconds }
     {
@@ -71,6 +73,7 @@ impl PreintegratedImu {
     }
 
     // The covariance of the biases after so many seconds more.
+    #[tactic(auto, unfolding(crate::specs::State::walked))]
     pub(crate) fn walked(self, seconds: f64) -> [f64; 36]
         ensures { result ≡ walked_of self seconds }
     {
@@ -83,6 +86,7 @@ impl PreintegratedImu {
         )
     }
 
+    #[tactic(auto, unfolding(crate::specs::State::finite_state))]
     pub fn is_finite(self) -> bool
         ensures { result ≡ finite_state self }
     {
@@ -98,6 +102,7 @@ impl PreintegratedImu {
             & self.has_finite_jacobians()
     }
 
+    #[tactic(auto, unfolding(crate::specs::State::finite_motion))]
     fn has_finite_motion(self) -> bool
         ensures { result ≡ finite_motion self }
     {
@@ -110,6 +115,7 @@ impl PreintegratedImu {
             & number::is_finite(self.dt)
     }
 
+    #[tactic(auto, unfolding(crate::specs::State::finite_jacobians))]
     fn has_finite_jacobians(self) -> bool
         ensures { result ≡ finite_jacobians self }
     {
@@ -159,6 +165,7 @@ fn accel_walk(calib: ImuCalib, seconds: f64) -> f64
     calib.accel_bias_noise * calib.accel_bias_noise * seconds
 }
 
+#[tactic(auto, unfolding(crate::specs::State::valid_calib))]
 fn is_valid_calib(calib: ImuCalib) -> bool
     ensures { result ≡ valid_calib calib }
 {
@@ -168,6 +175,7 @@ fn is_valid_calib(calib: ImuCalib) -> bool
         & number::is_finite_not_negative(calib.accel_bias_noise)
 }
 
+#[tactic(auto, unfolding(crate::specs::State::finite_calib))]
 fn is_finite_calib(calib: ImuCalib) -> bool
     ensures { result ≡ finite_calib calib }
 {
@@ -177,6 +185,7 @@ fn is_finite_calib(calib: ImuCalib) -> bool
         & number::is_finite(calib.accel_bias_noise)
 }
 
+#[tactic(auto, unfolding(crate::specs::State::finite_bias))]
 pub fn is_finite_bias(bias: ImuBias) -> bool
     ensures { result ≡ finite_bias bias }
 {
@@ -185,6 +194,7 @@ pub fn is_finite_bias(bias: ImuBias) -> bool
     vec3::is_finite_vector(gyro) & vec3::is_finite_vector(accel)
 }
 
+#[tactic(auto, unfolding(crate::specs::State::finite_measurement))]
 pub(crate) fn is_finite_measurement(m: ImuMeasurement) -> bool
     ensures { result ≡ finite_measurement m }
 {

@@ -53,6 +53,7 @@ impl PreintegratedImu {
     }
 
     // (ω − bg)·dt.
+    #[tactic(auto, unfolding(crate::specs::Step::turn_in))]
     fn turn_in(self, m: ImuMeasurement, dt: f64) -> [f64; 3]
         ensures { result ≡ turn_in self m dt }
     {
@@ -63,6 +64,7 @@ impl PreintegratedImu {
     }
 
     // The acceleration less its bias.
+    #[tactic(auto, unfolding(crate::specs::Step::accel_in))]
     fn accel_in(self, m: ImuMeasurement) -> [f64; 3]
         ensures { result ≡ accel_in self m }
     {

@@ -43,6 +43,7 @@ impl Prediction {
         position: [0.0, 0.0, 0.0],
     };
 
+    #[tactic(auto, unfolding(crate::specs::Correction::finite_prediction))]
     fn is_finite(self) -> bool
         ensures { result ≡ finite_prediction self }
     {
@@ -56,6 +57,7 @@ impl Prediction {
 }
 
 // ΔR · Exp(∂ΔR/∂bg · δbg).
+#[tactic(auto, unfolding(crate::specs::Correction::rotation_with_bias, crate::specs::Correction::rotation_with))]
 pub fn delta_rotation_with_bias(state: PreintegratedImu, bias: ImuBias) -> CorrectedRotation
     ensures { told_rotation result ≡ rotation_with_bias state bias }
 {
@@ -79,6 +81,7 @@ pub fn delta_rotation_with_bias(state: PreintegratedImu, bias: ImuBias) -> Corre
 }
 
 // Δv + ∂Δv/∂bg · δbg + ∂Δv/∂ba · δba.
+#[tactic(auto, unfolding(crate::specs::Correction::velocity_with))]
 pub fn delta_velocity_with_bias(state: PreintegratedImu, bias: ImuBias) -> CorrectedVector
     ensures { told_vector result ≡ corrected_of bias (velocity_with state bias) }
 {
@@ -98,6 +101,7 @@ pub fn delta_velocity_with_bias(state: PreintegratedImu, bias: ImuBias) -> Corre
 }
 
 // Δp + ∂Δp/∂bg · δbg + ∂Δp/∂ba · δba.
+#[tactic(auto, unfolding(crate::specs::Correction::position_with))]
 pub fn delta_position_with_bias(state: PreintegratedImu, bias: ImuBias) -> CorrectedVector
     ensures { told_vector result ≡ corrected_of bias (position_with state bias) }
 {
@@ -116,6 +120,7 @@ pub fn delta_position_with_bias(state: PreintegratedImu, bias: ImuBias) -> Corre
     )
 }
 
+#[tactic(auto, unfolding(crate::specs::Correction::gyro_change))]
 fn gyro_change(state: PreintegratedImu, bias: ImuBias) -> [f64; 3]
     ensures { result ≡ gyro_change state bias }
 {
@@ -125,6 +130,7 @@ fn gyro_change(state: PreintegratedImu, bias: ImuBias) -> [f64; 3]
     vec3::vector_difference(to, from)
 }
 
+#[tactic(auto, unfolding(crate::specs::Correction::accel_change))]
 fn accel_change(state: PreintegratedImu, bias: ImuBias) -> [f64; 3]
     ensures { result ≡ accel_change state bias }
 {
@@ -134,6 +140,7 @@ fn accel_change(state: PreintegratedImu, bias: ImuBias) -> [f64; 3]
     vec3::vector_difference(to, from)
 }
 
+#[tactic(auto, unfolding(crate::specs::Correction::correction_turn))]
 fn correction_turn(state: PreintegratedImu, bias: ImuBias) -> [f64; 3]
     ensures { result ≡ correction_turn state bias }
 {
@@ -142,6 +149,7 @@ fn correction_turn(state: PreintegratedImu, bias: ImuBias) -> [f64; 3]
 }
 
 // The state of the next frame, from rotation r, velocity v and position p at this one, with gravity g, all in the world.
+#[tactic(auto, unfolding(crate::specs::Correction::predict_of))]
 pub fn predict(
     state: PreintegratedImu,
     r: [f64; 9],
@@ -168,6 +176,7 @@ pub fn predict(
     }
 }
 
+#[tactic(auto, unfolding(crate::specs::Correction::predicted_state))]
 fn predicted_state(
     state: PreintegratedImu,
     r: [f64; 9],
@@ -197,6 +206,7 @@ fn predicted_state(
     }
 }
 
+#[tactic(auto, unfolding(crate::specs::Correction::vector_with))]
 fn vector_with(
     x: [f64; 3],
     by_gyro: [f64; 9],
@@ -212,6 +222,7 @@ fn vector_with(
     )
 }
 
+#[tactic(auto, unfolding(crate::specs::Correction::corrected_of))]
 fn corrected(bias: ImuBias, x: [f64; 3]) -> CorrectedVector
     ensures { told_vector result ≡ corrected_of bias x }
 {

@@ -84,7 +84,7 @@ fn matrix_n(calib: ImuCalib, dt: f64) -> [f64; 36]
     )
 }
 
-// A.C.Aᵀ + B.N.Bᵀ. A, B and N are mostly zeros, and what meets a zero is left out of the products.
+// A·C·Aᵀ + B·N·Bᵀ. A, B and N are mostly zeros, and what meets a zero is left out of the products.
 #[tactic(auto, unfolding(crate::specs::Inside::Lean::lean_covariance_after))]
 pub fn covariance_after(
     before: &[f64; 81],

@@ -83,7 +83,7 @@ pub fn hat_of(v: [f64; 3]) -> [f64; 9]
     mat3::hat(v[0], v[1], v[2])
 }
 
-// I + A.H + B.H².
+// I + A·H + B·H².
 #[tactic(auto, unfolding(crate::specs::Rotation::exp_by))]
 fn exp_by(k: Coefficients, h: [f64; 9], h2: [f64; 9]) -> [f64; 9]
     ensures { result ≡ exp_by k h h2 }
@@ -94,7 +94,7 @@ fn exp_by(k: Coefficients, h: [f64; 9], h2: [f64; 9]) -> [f64; 9]
     )
 }
 
-// I − B.H + C.H².
+// I − B·H + C·H².
 #[tactic(auto, unfolding(crate::specs::Rotation::jacobian_by))]
 fn jacobian_by(k: Coefficients, h: [f64; 9], h2: [f64; 9]) -> [f64; 9]
     ensures { result ≡ jacobian_by k h h2 }

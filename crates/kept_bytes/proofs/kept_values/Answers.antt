@@ -1,0 +1,23 @@
+-- `kept_values` meets its contract: what is stored is kept at the end of the run from the integrator that was made. Assumes nothing.
+use mathlib.Core.Path.{ap, ◌∙◌}
+use lib.ListN.{length}
+use borrow.Author.Rules.{rules}
+use Rattle.number.specs.Said.{Told}
+use Rattle.number.specs.Tabulated.{tabulated}
+use Rattle.kept.specs.declared.KeptValues.{KeptValues}
+use Rattle.wheel.specs.declared.WheelPreintegration.{WheelPreintegration}
+use Rattle.wheel.specs.Integrator.{make_of}
+use Rattle.runs.specs.declared.Ran.{Ran}
+use Rattle.runs.specs.Events.{events_in}
+use Rattle.runs.specs.Run.{ended, ran_of}
+use Rattle.kept_bytes.specs.Fixture.{kept_number}
+use Rattle.kept_bytes.proofs.kept_values.Goals as goal
+
+pub returns : goal.returns
+unfolding ran_of
+returns c =
+    let args = c.args in
+    let events = events_in args.events.now in
+    let made = c.new-made.ensures ∙ (λ i. make_of (c.drive_of-drive.ensures i) (c.noise_of.ensures i)) in
+    let kept = ap (λ (r : Ran). r.state.kept) c.run-ran.ensures.value ∙ ap (λ (t : Told WheelPreintegration). (ended t.value events).kept) made in
+    c.store.ensures ∙ ap (λ (k : KeptValues). tabulated (length args.out.now) (kept_number k)) kept
