@@ -1,4 +1,4 @@
-// The covariance of the inertial step, A.C.Aᵀ + B.N.Bᵀ, of which A, B and N are mostly zeros: what meets a zero is left out. A zero times a finite number is a zero and adds
+// The covariance of the inertial step, A·C·Aᵀ + B·N·Bᵀ, of which A, B and N are mostly zeros: what meets a zero is left out. A zero times a finite number is a zero and adds
 // nothing, bit for bit, to a sum that starts from +0; and what is not finite stays so. proofs/Agrees.antt has the law.
 #![tactic(auto)]
 
@@ -177,7 +177,7 @@ fn step_times(a: &[f64; 81], m: &[f64; 81]) -> [f64; 81]
     out
 }
 
-// A.C.Aᵀ + B.N.Bᵀ.
+// A·C·Aᵀ + B·N·Bᵀ.
 pub fn carried(a: &[f64; 81], c: &[f64; 81], b: &[f64; 54], n: &[f64; 36]) -> [f64; 81]
     ensures { result ≡ lean_carried a.now c.now b.now n.now }
 {

@@ -6,4 +6,5 @@ mod Decimal
 mod Lengths
 mod Spaced
 mod Readings
+mod Walked
 mod Whole

@@ -8,7 +8,6 @@ use Rattle.vec3.specs.Vector.{finite_vector}
 use Rattle.robust.specs.Huber.{valid_huber, joined_of}
 use Rattle.robust.specs.declared.Huber.{Huber}
 use Rattle.robust.specs.declared.Huber.TheVariants.{Absent}
-use Rattle.wheel_odom.specs.declared.Outcome.{Outcome}
 use Rattle.wheel_odom.specs.declared.WheelOdomMeasurement.{WheelOdomMeasurement}
 use Rattle.wheel_odom.specs.Measurement.{blank, compose_of, said_outcome}
 use Rattle.wheel_odom.specs.Information.{information_of}

@@ -1,6 +1,5 @@
 -- `kept_of` meets its contract: each value is what its call ensures. Assumes nothing.
 use Rattle.kept.specs.Kept.{kept_of}
-use borrow.Author.Rules.{rules}
 use Rattle.kept.proofs.kept_of.Goals as goal
 
 pub returns : goal.returns

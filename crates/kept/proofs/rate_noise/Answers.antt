@@ -1,5 +1,4 @@
 use Rattle.kept.specs.Kept.{rate_noise}
-use borrow.Author.Rules.{rules}
 use Rattle.kept.proofs.rate_noise.Goals as goal
 
 pub returns : goal.returns

@@ -3,7 +3,6 @@ use mathlib.Core.Path.{sym, subst}
 use lib.Dec.{T}
 use lib.Ieee.{div, of_bits}
 use lib.Ieee.Compare.{differs_from_itself}
-use borrow.Author.Rules.{rules}
 use Rattle.kept.proofs.settled.Goals as goal
 
 pub returns-then-x : goal.returns-then-x

@@ -1,10 +1,6 @@
 -- `settled_noise` meets its contract: each number is written over with itself. Assumes nothing.
-use mathlib.Core.Path.{◌≡◌, refl, ap, ◌∙◌}
+use mathlib.Core.Path.{◌≡◌}
 use Prim.Native.Nat.{◌-◌}
-use native.Mathlib.Omega.{arith}
-use lib.ListN.{set}
-use lib.Seq.{set-get_or}
-use lib.Ieee.{nan}
 use Rattle.kept.proofs.settled_noise.Given as goal
 
 abbrev pub invariant-loop-i : goal.invariant-loop-i

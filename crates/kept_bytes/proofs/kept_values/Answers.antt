@@ -1,7 +1,6 @@
 -- `kept_values` meets its contract: what is stored is kept at the end of the run from the integrator that was made. Assumes nothing.
 use mathlib.Core.Path.{ap, ◌∙◌}
 use lib.ListN.{length}
-use borrow.Author.Rules.{rules}
 use Rattle.number.specs.Said.{Told}
 use Rattle.number.specs.Tabulated.{tabulated}
 use Rattle.kept.specs.declared.KeptValues.{KeptValues}

@@ -1,11 +1,7 @@
 -- `store` meets its contract: the loop keeps `Filled`, that the first i numbers stand at the front. Assumes nothing.
 use mathlib.Core.Path.{refl}
-use Prim.Native.Nat.{◌-◌}
 use native.Mathlib.Omega.{arith}
-use borrow.Author.Rules.{rules}
-use lib.ListN.{length}
-use Rattle.number.proofs.Filled.{Filled, filled_none, filled_more, filled_done}
-use Rattle.kept_bytes.specs.Fixture.{kept_number}
+use Rattle.number.proofs.Filled.{filled_none, filled_more, filled_done}
 use Rattle.kept_bytes.proofs.store.Goals as goal
 
 pub loop-i-init : goal.loop-i-init

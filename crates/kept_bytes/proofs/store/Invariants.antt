@@ -1,10 +1,6 @@
 -- `store` meets its contract: the loop keeps `Filled`, that the first i numbers stand at the front. Assumes nothing.
-use mathlib.Core.Path.{refl}
-use Prim.Native.Nat.{◌-◌}
-use native.Mathlib.Omega.{arith}
-use borrow.Author.Rules.{rules}
 use lib.ListN.{length}
-use Rattle.number.proofs.Filled.{Filled, filled_none, filled_more, filled_done}
+use Rattle.number.proofs.Filled.{Filled}
 use Rattle.kept_bytes.specs.Fixture.{kept_number}
 use Rattle.kept_bytes.proofs.store.Given as goal
 

@@ -1,13 +1,14 @@
--- `plus_column` meets its contract. The invariant: the first r sums are made. The measure is the number of rows left. Assumes nothing.
-use Prim.Native.Nat.{◌-◌}
+-- `plus_column` meets its contract: before the loop, after a turn and at the end, by the laws of `Filled`. Assumes nothing.
 use native.Mathlib.Omega.{arith}
 use borrow.Author.Rules.{rules}
-use lib.ListN.{get_or}
-use lib.Ieee.{nan}
-use Rattle.number.specs.Float.{◌⊕◌, ◌⊗◌}
-use Rattle.number.proofs.Filled.{Filled, filled_none, filled_more, filled_done}
-use Rattle.mat9.specs.Matrix.{entry}
+use Rattle.number.proofs.Filled.{filled_none, filled_more, filled_done}
 use Rattle.lean9.proofs.plus_column.Goals as goal
+
+pub loop-r-init : goal.loop-r-init
+loop-r-init c = filled_none (search rules)
+
+pub loop-r-preserved : goal.loop-r-preserved
+loop-r-preserved c = filled_more c.loop-r.invariant (omega arith) (rw c.number_at.ensures)
 
 pub returns : goal.returns
 returns c = filled_done c.loop-r.invariant (omega arith)

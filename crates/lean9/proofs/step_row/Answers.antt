@@ -6,7 +6,6 @@ use lib.Ieee.{Float}
 use Rattle.number.specs.Float.{◌⊗◌}
 use Rattle.mat9.specs.Matrix.{entry}
 use Rattle.lean9.proofs.Kept.{kept_in_top, kept_in_middle, kept_in_bottom}
-use borrow.Author.Rules.{rules}
 use Rattle.lean9.proofs.step_row.Goals as goal
 
 pub returns-then-r-lt3 : goal.returns-then-r-lt3

@@ -1,10 +1,9 @@
 -- `block3x3_to_9x9` meets its contract. The invariants: the columns before c are filled, and of column c the rows before r.
 -- The measures are the numbers of columns and of rows left. Assumes nothing.
 use mathlib.Core.Path.{refl}
-use Prim.Native.Nat.{◌-◌}
 use native.Mathlib.Omega.{arith}
 use Rattle.mat9.specs.Matrix.{blocks}
-use Rattle.mat9.proofs.Loops.{block_entry, FilledTo, filled_to_none, filled_to_more, filled_to_next, filled_to_done}
+use Rattle.mat9.proofs.Loops.{filled_to_none, filled_to_more, filled_to_done}
 use Rattle.mat9.proofs.block3x3_to_9x9.Goals as goal
 
 pub loop-c-init : goal.loop-c-init

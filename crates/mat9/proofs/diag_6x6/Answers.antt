@@ -2,7 +2,6 @@
 use mathlib.Core.Path.{refl}
 use Rattle.number.specs.Tabulated.{tabulated}
 use Rattle.mat9.specs.Matrix.{diagonal6, matrix}
-use borrow.Author.Rules.{rules}
 use Rattle.mat9.proofs.diag_6x6.Goals as goal
 
 pub returns : goal.returns

@@ -1,6 +1,5 @@
 -- `is_finite_diagonal` meets its contract: each place of the diagonal is asked. Assumes nothing.
 use Rattle.mat9.specs.Matrix.{finite_diagonal}
-use borrow.Author.Rules.{rules}
 use Rattle.mat9.proofs.is_finite_diagonal.Goals as goal
 
 pub returns : goal.returns

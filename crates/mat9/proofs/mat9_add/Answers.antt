@@ -1,13 +1,10 @@
 -- `mat9_add` meets its contract. The invariant: the first n places are filled; place n is row n % 9 of column n / 9. The measure is the number of places left.
 -- Assumes nothing.
 use mathlib.Core.Path.{refl}
-use Prim.Native.Nat.{◌-◌}
 use native.Mathlib.Nat.{mod-add-div'}
 use native.Mathlib.Omega.{arith}
-use Rattle.number.specs.Float.{◌⊕◌}
-use Rattle.number.proofs.Filled.{Filled, filled_none, filled_more, filled_done}
-use Rattle.mat9.specs.Matrix.{entry, matrix, sum}
-use Rattle.mat9.proofs.Loops.{cell}
+use Rattle.number.proofs.Filled.{filled_none, filled_more, filled_done}
+use Rattle.mat9.specs.Matrix.{matrix, sum}
 use Rattle.mat9.proofs.mat9_add.Goals as goal
 
 pub loop-n-init : goal.loop-n-init

@@ -1,5 +1,4 @@
 use Rattle.planar_information.specs.Block.{near_symmetry}
-use borrow.Author.Rules.{rules}
 use Rattle.planar_information.proofs.has_near_symmetry.Goals as goal
 
 pub returns : goal.returns

@@ -1,5 +1,4 @@
 use Rattle.planar_information.specs.Block.{invertible}
-use borrow.Author.Rules.{rules}
 use Rattle.planar_information.proofs.is_invertible.Goals as goal
 
 pub returns : goal.returns

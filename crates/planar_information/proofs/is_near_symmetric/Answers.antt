@@ -1,6 +1,5 @@
 use mathlib.Core.Path.{◌≡◌, sym}
 use mathlib.Core.Bool.{true}
-use borrow.Author.Rules.{rules}
 use Rattle.number.specs.Float.{◌⊖◌, ◌=ᶠ◌, size}
 use Rattle.number.specs.Constants.{zero as +0}
 use Rattle.planar_information.specs.Block.{near_symmetric}

@@ -1,5 +1,4 @@
 use Rattle.planar_information.specs.Block.{planar_block}
-use borrow.Author.Rules.{rules}
 use Rattle.planar_information.proofs.planar_block.Goals as goal
 
 pub returns : goal.returns

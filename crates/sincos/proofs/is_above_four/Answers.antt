@@ -1,5 +1,4 @@
 use Rattle.sincos.specs.Turn.{above_four}
-use borrow.Author.Rules.{rules}
 use Rattle.sincos.proofs.is_above_four.Goals as goal
 
 pub returns : goal.returns

@@ -1,6 +1,5 @@
 use mathlib.Core.Path.{sym}
 use Rattle.sincos.specs.Turn.{sin_cos_of}
-use borrow.Author.Rules.{rules}
 use Rattle.sincos.proofs.sin_cos.Goals as goal
 
 pub returns-then-not-is_finite : goal.returns-then-not-is_finite

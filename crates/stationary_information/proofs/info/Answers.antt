@@ -1,5 +1,4 @@
 use Rattle.stationary_information.specs.Information.{info_of}
-use borrow.Author.Rules.{rules}
 use Rattle.stationary_information.proofs.info.Goals as goal
 
 pub returns : goal.returns

@@ -1,6 +1,5 @@
 use mathlib.Core.Path.{sym, ◌∙◌}
 use Rattle.stationary_information.specs.Information.{information_of}
-use borrow.Author.Rules.{rules}
 use Rattle.stationary_information.proofs.information.Goals as goal
 
 pub returns-then-not-is_valid : goal.returns-then-not-is_valid

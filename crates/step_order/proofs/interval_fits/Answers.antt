@@ -1,7 +1,6 @@
 -- `interval_fits` meets its contract: the tests in the order of the definition. `cN` is the place where test N was passed. Assumes nothing.
 use mathlib.Core.Path.{sym}
 use Rattle.step_order.specs.Order.{interval_fits}
-use borrow.Author.Rules.{rules}
 use Rattle.step_order.proofs.interval_fits.Goals as goal
 
 pub returns-then-i : goal.returns-then-i

@@ -1,7 +1,6 @@
 -- `reading_fits` meets its contract: the tests in the order of the definition. `cN` is the place where test N was passed. Assumes nothing.
 use mathlib.Core.Path.{sym}
 use Rattle.step_order.specs.Order.{reading_fits}
-use borrow.Author.Rules.{rules}
 use Rattle.step_order.proofs.reading_fits.Goals as goal
 
 pub returns-then-not-is_valid : goal.returns-then-not-is_valid

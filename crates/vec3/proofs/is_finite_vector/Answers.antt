@@ -1,5 +1,4 @@
 use Rattle.vec3.specs.Vector.{three_finite}
-use borrow.Author.Rules.{rules}
 use Rattle.vec3.proofs.is_finite_vector.Goals as goal
 
 pub returns : goal.returns

@@ -1,5 +1,4 @@
 use Rattle.arc.specs.Arc.{closed_forms}
-use borrow.Author.Rules.{rules}
 use Rattle.arc.proofs.formula.closed_forms.Goals as goal
 
 pub returns : goal.returns

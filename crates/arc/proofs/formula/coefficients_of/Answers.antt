@@ -1,6 +1,5 @@
 use Rattle.arc.specs.Arc.{coefficients_of}
 use mathlib.Core.Path.{sym}
-use borrow.Author.Rules.{rules}
 use Rattle.arc.proofs.formula.coefficients_of.Goals as goal
 
 pub returns-then-size : goal.returns-then-size

@@ -1,5 +1,4 @@
 use Rattle.arc.specs.Arc.{increment_of}
-use borrow.Author.Rules.{rules}
 use Rattle.arc.proofs.formula.from_twist_increment.Goals as goal
 
 pub returns : goal.returns

@@ -1,5 +1,4 @@
 use Rattle.arc.specs.Arc.{se2_exp}
-use borrow.Author.Rules.{rules}
 use Rattle.arc.proofs.formula.se2_exp.Goals as goal
 
 pub returns : goal.returns

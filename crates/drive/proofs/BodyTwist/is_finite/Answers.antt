@@ -1,5 +1,4 @@
 use Rattle.drive.specs.Drive.{finite_twist}
-use borrow.Author.Rules.{rules}
 use Rattle.drive.proofs.BodyTwist.is_finite.Goals as goal
 
 pub returns : goal.returns

@@ -1,7 +1,6 @@
 -- `twist` meets its contract: the tests in the order of the definition. `cN` is the place where test N was passed. Assumes nothing.
 use Rattle.drive.specs.Drive.{twist_asked}
 use mathlib.Core.Path.{sym}
-use borrow.Author.Rules.{rules}
 use Rattle.drive.proofs.DifferentialDrive.twist.Goals as goal
 
 pub returns-then-not-is_valid : goal.returns-then-not-is_valid

@@ -1,6 +1,6 @@
 -- `wheel_rates_from_ticks` meets its contract: the tests in the order of the definition. The differences are read back from their bits. Assumes nothing.
-use Rattle.drive.specs.Drive.{radians_per_tick, rates_asked, rates_from_ticks}
-use mathlib.Core.Path.{◌≡◌, sym}
+use Rattle.drive.specs.Drive.{rates_asked}
+use mathlib.Core.Path.{sym}
 use mir.Syntax.{w64}
 use mir.ValLaws.{to_z-of_z}
 use Rattle.drive.proofs.DifferentialDrive.wheel_rates_from_ticks.Goals as goal

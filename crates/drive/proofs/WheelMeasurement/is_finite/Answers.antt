@@ -1,5 +1,4 @@
 use Rattle.drive.specs.Readings.{finite_measurement}
-use borrow.Author.Rules.{rules}
 use Rattle.drive.proofs.WheelMeasurement.is_finite.Goals as goal
 
 pub returns : goal.returns

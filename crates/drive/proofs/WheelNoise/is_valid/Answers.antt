@@ -1,5 +1,4 @@
 use Rattle.drive.specs.Noise.{valid_noise}
-use borrow.Author.Rules.{rules}
 use Rattle.drive.proofs.WheelNoise.is_valid.Goals as goal
 
 pub returns : goal.returns

@@ -1,7 +1,6 @@
 use mir.ValLaws.{to_z-of_z}
 use mir.Syntax.{w64}
 use Rattle.drive.specs.Drive.{rates_from_ticks}
-use borrow.Author.Rules.{rules}
 use Rattle.drive.proofs.formula.rates_from_ticks.Goals as goal
 
 pub returns : goal.returns

@@ -1,6 +1,5 @@
 -- `Accumulated::is_finite` meets its contract: it joins the two tests. Assumes nothing.
 use Rattle.interval.specs.Accumulated.{finite_accumulated}
-use borrow.Author.Rules.{rules}
 use Rattle.interval.proofs.Accumulated.is_finite.Goals as goal
 
 pub returns : goal.returns

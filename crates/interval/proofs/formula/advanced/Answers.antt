@@ -1,6 +1,5 @@
 -- `advanced` meets its contract: each call's result is what it ensures. Assumes nothing.
 use Rattle.interval.specs.Accumulated.{advanced}
-use borrow.Author.Rules.{rules}
 use Rattle.interval.proofs.formula.advanced.Goals as goal
 
 pub returns : goal.returns

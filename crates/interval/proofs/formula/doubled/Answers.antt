@@ -1,6 +1,6 @@
 -- `doubled` meets its contract. The invariant: what is left to do to the motion so far gives what was to be done to the first.
 -- Assumes nothing.
-use mathlib.Core.Path.{◌≡◌, refl, sym, ap, ◌∙◌}
+use mathlib.Core.Path.{◌≡◌, sym, ap, ◌∙◌}
 use Prim.Native.Nat.{ℕ, suc, ◌-◌, ◌≤◌, ◌<◌}
 use native.Mathlib.Omega.{arith}
 use Rattle.planar.specs.declared.PlanarMotion.{PlanarMotion}

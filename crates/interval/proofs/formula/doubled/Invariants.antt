@@ -1,10 +1,6 @@
 -- `doubled` meets its contract. The invariant: what is left to do to the motion so far gives what was to be done to the first.
 -- Assumes nothing.
-use mathlib.Core.Path.{◌≡◌, refl, sym, ap, ◌∙◌}
-use Prim.Native.Nat.{ℕ, suc, ◌-◌, ◌≤◌, ◌<◌}
-use native.Mathlib.Omega.{arith}
-use Rattle.planar.specs.declared.PlanarMotion.{PlanarMotion}
-use Rattle.planar.specs.Compose.{composed}
+use mathlib.Core.Path.{◌≡◌}
 use Rattle.interval.specs.Interval.{doubled}
 use Rattle.interval.proofs.formula.doubled.Given as goal
 

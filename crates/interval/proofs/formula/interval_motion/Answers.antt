@@ -1,6 +1,5 @@
 -- `interval_motion` meets its contract: each call's result is what it ensures. Assumes nothing.
 use Rattle.interval.specs.Interval.{interval_motion}
-use borrow.Author.Rules.{rules}
 use Rattle.interval.proofs.formula.interval_motion.Goals as goal
 
 pub returns : goal.returns

@@ -1,6 +1,5 @@
 -- `interval_of` meets its contract: each call's result is what it ensures. Assumes nothing.
 use Rattle.interval.specs.Interval.{interval_of}
-use borrow.Author.Rules.{rules}
 use Rattle.interval.proofs.formula.interval_of.Goals as goal
 
 pub returns : goal.returns

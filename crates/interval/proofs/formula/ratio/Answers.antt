@@ -1,6 +1,5 @@
 use mathlib.Core.Path.{sym}
 use Rattle.interval.specs.Interval.{ratio_of}
-use borrow.Author.Rules.{rules}
 use Rattle.interval.proofs.formula.ratio.Goals as goal
 
 pub returns : goal.returns

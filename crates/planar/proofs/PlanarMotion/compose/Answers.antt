@@ -1,7 +1,6 @@
 -- `compose` meets its contract: the tests in the order of the definition. `cN` is the place where test N was passed. Assumes nothing.
 use Rattle.planar.specs.Compose.{compose_of}
 use mathlib.Core.Path.{sym, ◌∙◌}
-use borrow.Author.Rules.{rules}
 use Rattle.planar.proofs.PlanarMotion.compose.Goals as goal
 
 pub returns-then-not-is_finite : goal.returns-then-not-is_finite

@@ -1,5 +1,4 @@
 use Rattle.planar.specs.Motion.{finite_motion}
-use borrow.Author.Rules.{rules}
 use Rattle.planar.proofs.PlanarMotion.is_finite.Goals as goal
 
 pub returns : goal.returns

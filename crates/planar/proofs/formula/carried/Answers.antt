@@ -1,5 +1,4 @@
 use Rattle.planar.specs.Compose.{carried}
-use borrow.Author.Rules.{rules}
 use Rattle.planar.proofs.formula.carried.Goals as goal
 
 pub returns : goal.returns

@@ -1,5 +1,4 @@
 use Rattle.planar.specs.Compose.{composed, shifted}
-use borrow.Author.Rules.{rules}
 use Rattle.planar.proofs.formula.composed.Goals as goal
 
 pub returns : goal.returns

@@ -1,5 +1,4 @@
 use Rattle.planar.specs.Compose.{symmetrized}
-use borrow.Author.Rules.{rules}
 use Rattle.planar.proofs.formula.symmetrized.Goals as goal
 
 pub returns : goal.returns

@@ -1,5 +1,4 @@
 use Rattle.planar.specs.Compose.{turn_matrix}
-use borrow.Author.Rules.{rules}
 use Rattle.planar.proofs.formula.turn_matrix.Goals as goal
 
 pub returns : goal.returns

@@ -1,5 +1,4 @@
 use Rattle.sincos.specs.Turn.{less_quarters}
-use borrow.Author.Rules.{rules}
 use Rattle.sincos.proofs.formula.after_quarters.Goals as goal
 
 pub returns : goal.returns

@@ -1,6 +1,5 @@
 use mathlib.Core.Path.{sym}
 use Rattle.sincos.specs.Turn.{from_zero_up}
-use borrow.Author.Rules.{rules}
 use Rattle.sincos.proofs.formula.from_zero_up.Goals as goal
 
 pub returns-then-a : goal.returns-then-a

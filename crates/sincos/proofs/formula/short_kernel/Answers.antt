@@ -1,6 +1,5 @@
 use mathlib.Core.Path.{refl}
 use Rattle.sincos.specs.Turn.{short_kernel}
-use borrow.Author.Rules.{rules}
 use Rattle.sincos.proofs.formula.short_kernel.Goals as goal
 
 pub returns : goal.returns

@@ -1,6 +1,5 @@
 use mathlib.Core.Path.{sym}
 use Rattle.sincos.specs.Turn.{turn_of}
-use borrow.Author.Rules.{rules}
 use Rattle.sincos.proofs.formula.turn_of.Goals as goal
 
 pub returns-then-a : goal.returns-then-a

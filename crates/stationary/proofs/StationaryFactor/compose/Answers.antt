@@ -1,6 +1,5 @@
 use mathlib.Core.Path.{sym}
 use Rattle.stationary.specs.Join.{compose_of}
-use borrow.Author.Rules.{rules}
 use Rattle.stationary.proofs.StationaryFactor.compose.Goals as goal
 
 pub returns-then-not-is_valid : goal.returns-then-not-is_valid

@@ -1,5 +1,4 @@
 use Rattle.stationary.specs.Factor.{valid_sigmas}
-use borrow.Author.Rules.{rules}
 use Rattle.stationary.proofs.StationaryFactor.has_valid_sigmas.Goals as goal
 
 pub returns : goal.returns

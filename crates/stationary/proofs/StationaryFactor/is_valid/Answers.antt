@@ -1,7 +1,6 @@
 use mathlib.Core.Bool.{not, ◌&&◌}
 use lib.Dec.{eqb}
 use Rattle.stationary.specs.Factor.{valid_factor}
-use borrow.Author.Rules.{rules}
 use Rattle.stationary.proofs.StationaryFactor.is_valid.Goals as goal
 
 pub returns : goal.returns

@@ -1,5 +1,4 @@
 use Rattle.stationary.specs.Join.{joined_factor}
-use borrow.Author.Rules.{rules}
 use Rattle.stationary.proofs.StationaryFactor.joined.Goals as goal
 
 pub returns : goal.returns

@@ -1,5 +1,4 @@
 use Rattle.stationary.specs.Factor.{finite_mean}
-use borrow.Author.Rules.{rules}
 use Rattle.stationary.proofs.StationaryGyro.is_finite.Goals as goal
 
 pub returns : goal.returns

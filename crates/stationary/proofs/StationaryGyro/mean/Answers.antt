@@ -1,5 +1,4 @@
 use Rattle.stationary.specs.Join.{mean_of}
-use borrow.Author.Rules.{rules}
 use Rattle.stationary.proofs.StationaryGyro.mean.Goals as goal
 
 pub returns : goal.returns

@@ -1,5 +1,4 @@
 use Rattle.stationary.specs.Factor.{valid_walk}
-use borrow.Author.Rules.{rules}
 use Rattle.stationary.proofs.factor.has_valid_walk.Goals as goal
 
 pub returns : goal.returns

@@ -1,5 +1,4 @@
 use Rattle.stationary_information.specs.Information.{finite_info}
-use borrow.Author.Rules.{rules}
 use Rattle.stationary_information.proofs.StationaryInfo.is_finite.Goals as goal
 
 pub returns : goal.returns

@@ -1,7 +1,6 @@
 -- `change` meets its contract: the tests in the order of the definition. Assumes nothing.
 use mathlib.Core.Path.{sym, ◌∙◌}
 use Rattle.wheel.specs.Integrator.{change_of}
-use borrow.Author.Rules.{rules}
 use Rattle.wheel.proofs.WheelPreintegration.change.Goals as goal
 
 pub returns-then-not-is_valid : goal.returns-then-not-is_valid

@@ -1,7 +1,6 @@
 -- `integrate` meets its contract: the reading is refused, or it is the first, or the last reading leads to it. Assumes nothing.
 use mathlib.Core.Path.{sym, ◌∙◌}
 use Rattle.wheel.specs.Step.{step_of}
-use borrow.Author.Rules.{rules}
 use Rattle.wheel.proofs.WheelPreintegration.integrate.Goals as goal
 
 pub returns-in-Refused : goal.returns-in-Refused

@@ -1,7 +1,6 @@
 -- `new` meets its contract: the tests in the order of the definition. Assumes nothing.
 use mathlib.Core.Path.{sym, ◌∙◌}
 use Rattle.wheel.specs.Integrator.{make_of}
-use borrow.Author.Rules.{rules}
 use Rattle.wheel.proofs.WheelPreintegration.new.Goals as goal
 
 pub returns-then-not-is_valid : goal.returns-then-not-is_valid

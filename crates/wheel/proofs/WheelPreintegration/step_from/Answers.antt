@@ -1,7 +1,6 @@
 -- `step_from` meets its contract: the interval is refused, or the result is, or it is taken. Assumes nothing.
 use mathlib.Core.Path.{sym, ◌∙◌}
 use Rattle.wheel.specs.Step.{step_from}
-use borrow.Author.Rules.{rules}
 use Rattle.wheel.proofs.WheelPreintegration.step_from.Goals as goal
 
 pub returns-in-Refused : goal.returns-in-Refused

@@ -7,7 +7,6 @@ use lib.Dec.{eqb}
 use lib.Ieee.{Float}
 use Rattle.number.specs.Said.{Told}
 use Rattle.wheel_factor.specs.Factor.{valid_factor, is_given}
-use borrow.Author.Rules.{rules}
 use Rattle.wheel_factor.proofs.WheelOdomFactor.is_valid.Goals as goal
 
 pub returns : goal.returns

@@ -1,7 +1,6 @@
 -- `WheelOdomMeasurement::compose` meets its contract: each way out by the tests passed on the way. Assumes nothing.
 use mathlib.Core.Path.{sym, ◌∙◌}
 use Rattle.wheel_odom.specs.Measurement.{compose_of}
-use borrow.Author.Rules.{rules}
 use Rattle.wheel_odom.proofs.WheelOdomMeasurement.compose.Goals as goal
 
 pub returns-then-not-is_finite : goal.returns-then-not-is_finite

@@ -1,5 +1,4 @@
 use Rattle.wheel_odom.specs.Measurement.{composed_measurement}
-use borrow.Author.Rules.{rules}
 use Rattle.wheel_odom.proofs.WheelOdomMeasurement.composed.Goals as goal
 
 pub returns : goal.returns

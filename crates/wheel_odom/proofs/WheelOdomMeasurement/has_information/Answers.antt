@@ -1,5 +1,4 @@
 use Rattle.wheel_odom.specs.Information.{has_information}
-use borrow.Author.Rules.{rules}
 use Rattle.wheel_odom.proofs.WheelOdomMeasurement.has_information.Goals as goal
 
 pub returns : goal.returns

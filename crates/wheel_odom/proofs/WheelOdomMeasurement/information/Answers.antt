@@ -1,6 +1,5 @@
 use Rattle.wheel_odom.specs.Information.{information_matrix, information_of}
 use mathlib.Core.Path.{sym, ◌∙◌}
-use borrow.Author.Rules.{rules}
 use Rattle.wheel_odom.proofs.WheelOdomMeasurement.information.Goals as goal
 
 pub returns-then-not-has_information : goal.returns-then-not-has_information

@@ -1,5 +1,4 @@
 use Rattle.wheel_odom.specs.Measurement.{finite_measurement}
-use borrow.Author.Rules.{rules}
 use Rattle.wheel_odom.proofs.WheelOdomMeasurement.is_finite.Goals as goal
 
 pub returns : goal.returns
