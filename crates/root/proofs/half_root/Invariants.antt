@@ -1,4 +1,4 @@
--- `root::half_root` meets its contract. The invariant: m is below the square of s + 1, and s is at most 2 ^ 28. The measure is s. Assumes nothing.
+-- `root::half_root`: m is below the square of s + 1, and s is at most 2 ^ 28. The measure is s. Assumes nothing.
 use Prim.Native.Nat.{◌+◌, ◌*◌, ◌^◌, ◌≤◌, ◌<◌}
 use Rattle.root.proofs.half_root.Given as goal
 

@@ -1,5 +1,5 @@
--- `root::normalized` meets its contract. The invariant: m * 2 ^ j is what it was, and m has at most 53 binary digits and is not 0.
--- So j is above 0 as long as the loop goes on, and it is the measure. Assumes nothing.
+-- `root::normalized`: m * 2 ^ j is what it was, and m has at most 53 binary digits and is not 0. So j is above 0 as long as the loop goes on, and it is the measure.
+-- Assumes nothing.
 use mathlib.Core.Path.{◌≡◌}
 use Prim.Native.Nat.{◌*◌, ◌^◌, ◌≤◌, ◌<◌}
 use Rattle.root.proofs.normalized.Given as goal

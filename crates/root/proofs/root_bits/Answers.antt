@@ -12,17 +12,13 @@ carry : {n : ℕ} (N : ℕ) (s r : Scaled) → s ≡ r → n ≡ N → Scale n r
 carry N s r e d k =
     subst (λ (z : Scaled). Scale N z.m z.h × (z.h < 1534)) (sym e) (subst (λ (z : ℕ). Scale z r.m r.h) d k.0, k.1)
 
--- what is known of s where the arms meet
-known : (c : goal.After-struct_known-1) → Scale (pattern_grains c.args.bits * 2 ^ 1022) c.if-field-eq0.s.m c.if-field-eq0.s.h × (c.if-field-eq0.s.h < 1534)
-known c =
-    let b = c.args.bits in
-    let n = pattern_grains b * 2 ^ 1022 in
-    elim c.if-field-eq0.branch [
-      | then-field-eq0 w ↦ carry n c.if-field-eq0.s w.normalized-s.result w.s-is (subnormal b w.if-field-eq0.true) w.normalized-s.ensures
-      | else-field-eq0 w ↦ carry n c.if-field-eq0.s w.normalized-s-else-field-eq0.result w.s-is (normal b w.if-field-eq0.false) w.normalized-s-else-field-eq0.ensures
-    ]
-
 pub returns : goal.returns
 returns c =
-    let k = known c in
-    rounded c.args.bits c.if-field-eq0.s.m c.if-field-eq0.s.h c.whole_root-q.result k.0 k.1 c.whole_root-q.ensures
+    let b = c.args.bits in
+    let n = pattern_grains b * 2 ^ 1022 in
+    let s = c.if-field-eq0.s in
+    let k : Scale n s.m s.h × (s.h < 1534) = elim c.if-field-eq0.branch [
+      | then-field-eq0 w ↦ carry n s w.normalized-s.result w.s-is (subnormal b w.if-field-eq0.true) w.normalized-s.ensures
+      | else-field-eq0 w ↦ carry n s w.normalized-s-else-field-eq0.result w.s-is (normal b w.if-field-eq0.false) w.normalized-s-else-field-eq0.ensures
+    ] in
+    rounded b s.m s.h c.whole_root-q.result k.0 k.1 c.whole_root-q.ensures

@@ -4,15 +4,8 @@ use mathlib.Core.Logic.{⊎_elim}
 use Prim.Native.Nat.{◌+◌, ◌-◌, ◌/◌, ◌^◌, ◌<◌}
 use native.Mathlib.Nat.{eq-or-lt_of_le}
 use native.Mathlib.Omega.{arith}
-use borrow.Author.Rules.{rules}
 use Rattle.root.proofs.Near.{just_above, just_below}
 use Rattle.root.proofs.whole_root.Goals as goal
-
-pub returns-then-m-eq4503599627370496 : goal.returns-then-m-eq4503599627370496
-returns-then-m-eq4503599627370496 c = search rules
-
-pub overflow_add-result : goal.overflow_add-result
-overflow_add-result c = search rules
 
 pub returns-then-m-le4503599694479360 : goal.returns-then-m-le4503599694479360
 returns-then-m-le4503599694479360 c =
@@ -20,17 +13,5 @@ returns-then-m-le4503599694479360 c =
     let more : 2 ^ 52 < m = ⊎_elim (λ e. absurd (c.if-m-eq4503599627370496.false (sym e))) (λ l. l) (eq-or-lt_of_le c.requires.0) in
     just_above m (m + 4503599627370495) (m - 4503599627370497) (omega arith) (omega arith) (omega arith)
 
-pub overflow_sub-result : goal.overflow_sub-result
-overflow_sub-result c = search rules
-
-pub overflow_sub-result-then-m-ge18014398442373120 : goal.overflow_sub-result-then-m-ge18014398442373120
-overflow_sub-result-then-m-ge18014398442373120 c = search rules
-
 pub returns-then-m-ge18014398442373120 : goal.returns-then-m-ge18014398442373120
 returns-then-m-ge18014398442373120 c = let m = c.args.m in just_below m (18014398509481983 - (18014398509481984 - m) / 2) (18014398509481984 - m) (omega arith) (omega arith) (omega arith) (omega arith)
-
-pub divided_root-requires : goal.divided_root-requires
-divided_root-requires c = search rules
-
-pub returns : goal.returns
-returns c = search rules
