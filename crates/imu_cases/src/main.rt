@@ -271,10 +271,8 @@ fn read_places(rt: &impl Input, order: &mut [usize]) -> usize
     ensures upper_bound { result ≤ length order.new }
     ensures value { result ≡ length (take result order.new) }
 {
-    let mut i = 0;
-    while i < order.len() {
+    for i in 0..order.len() {
         order[i] = 1000 + i;
-        i += 1;
     }
     read_at_most(rt, order.len())
 }
