@@ -3,11 +3,10 @@
 bit for bit, to the values worked out afresh, a NaN in either being the bits 7ff8000000000000". To the logic all NaNs are one, so that which bits a NaN
 has in memory is not proved but tried here, on the x86-64 code that ships.
 
-It has rt prove and build the library crates/kept_bytes, links tools/kept_bytes.c with it by the toolchain's own clang, and runs that, on another processor
-by the toolchain's emulator. In go carts, and runs of readings, restarts and changes; out come the 80 bytes of each end state's kept values.
+It has rt prove and build the library crates/kept_bytes, links tools/kept_bytes.c with it by the toolchain's own clang, and runs that.
+In go carts, and runs of readings, restarts and changes; out come the 80 bytes of each end state's kept values.
 What they must be is worked out by tools/wheel_cases.py, which restates 01 and 02, and by no code of this repository's crates. Run it from anywhere, with no arguments.
 """
-import platform
 import struct
 import subprocess
 import sys
@@ -23,19 +22,19 @@ NAN_BITS = 0x7FF8000000000000
 
 def build(folder):
     """The command that runs the reading program."""
-    kit = Path(subprocess.run(["rt", "doc"], check=True, capture_output=True, text=True).stdout.strip()).resolve().parent.parent
-    tools = kit / "on" / platform.machine() / "toolchain" / "bin"
+    kit = Path(subprocess.run(["rt", "doc"], check=True, capture_output=True, text=True).stdout.strip()).resolve().parent
+    tools = kit / "toolchain" / "bin"
     print("building the library kept_bytes; from nothing that takes a few minutes", flush=True)
-    built = subprocess.run(["rt", "staticlib", "kept_bytes"], cwd=ROOT, capture_output=True, text=True)
+    crate = ROOT / "crates" / "kept_bytes"
+    built = subprocess.run(["rt", "lib"], cwd=crate, capture_output=True, text=True)
     if built.returncode != 0:
-        sys.exit(f"kept_bytes.py: rt staticlib kept_bytes failed; its last lines:\n{built.stdout[-2000:]}{built.stderr[-2000:]}")
-    reader, library = Path(folder) / "reader", ROOT / "target" / "staticlib" / "libkept_bytes.a"
+        sys.exit(f"kept_bytes.py: rt lib failed in crates/kept_bytes; its last lines:\n{built.stdout[-2000:]}{built.stderr[-2000:]}")
+    reader, library = Path(folder) / "reader", crate / "out" / "libkept_bytes.a"
     target = ["--target=x86_64-unknown-linux-gnu", "-O2", "-ffreestanding", "-fno-stack-protector", "-fno-builtin"]
     obj = Path(folder) / "reader.o"
     subprocess.run([tools / "clang", *target, "-c", ROOT / "tools" / "kept_bytes.c", "-o", obj], check=True)
     subprocess.run([tools / "ld.lld", "-static", "--gc-sections", obj, library, "-o", reader], check=True)
-    emulator = tools / "qemu-x86_64"
-    return [emulator, reader] if emulator.exists() else [reader]
+    return [reader]
 
 
 # ---- the cases: parameters, and the bytes of a run's events
