@@ -78,11 +78,11 @@ unfoldable pub radians_per_tick : DifferentialDrive → Float
 radians_per_tick d = TAU ⊘ d.ticks_per_revolution
 
 -- "difference as f64, times (TAU / ticks per turn), divided by dt"
-unfoldable pub rate_from_ticks : (perTick : Float) → ℤ → Float → Float
-rate_from_ticks perTick difference dt = whole_to_float difference ⊗ perTick ⊘ dt
+unfoldable pub rate_from_ticks : (per_tick : Float) → ℤ → Float → Float
+rate_from_ticks per_tick difference dt = whole_to_float difference ⊗ per_tick ⊘ dt
 
-unfoldable pub rates_from_ticks : (perTick : Float) → ℤ → ℤ → Float → WheelRates
-rates_from_ticks perTick left right dt = rates (rate_from_ticks perTick left dt) (rate_from_ticks perTick right dt)
+unfoldable pub rates_from_ticks : (per_tick : Float) → ℤ → ℤ → Float → WheelRates
+rates_from_ticks per_tick left right dt = rates (rate_from_ticks per_tick left dt) (rate_from_ticks per_tick right dt)
 
 -- The step from time 0 to time dt: a refusal that carries times carries these.
 unfoldable pub rates_asked : DifferentialDrive → ℤ → ℤ → Float → Said WheelRates
@@ -104,8 +104,8 @@ abbrev pub counted : DifferentialDrive → ℤ → ℤ → ℤ
 counted d from to = tick_difference d.counter_width from to
 
 -- The rates over the time dt from one reading to the next of its kind. Readings of two kinds are refused before their rates are asked for.
-abbrev pub rates_between : DifferentialDrive → (perTick : Float) → Reading → Reading → Float → WheelRates
-rates_between d perTick (Ticks left right) (Ticks left' right') dt = rates_from_ticks perTick (counted d left left') (counted d right right') dt
-rates_between d perTick (AngularVelocity left right) (AngularVelocity left' right') dt = mean_rates left right left' right'
-rates_between d perTick (Ticks left right) (AngularVelocity left' right') dt = rates +0 +0
-rates_between d perTick (AngularVelocity left right) (Ticks left' right') dt = rates +0 +0
+abbrev pub rates_between : DifferentialDrive → (per_tick : Float) → Reading → Reading → Float → WheelRates
+rates_between d per_tick (Ticks left right) (Ticks left' right') dt = rates_from_ticks per_tick (counted d left left') (counted d right right') dt
+rates_between d per_tick (AngularVelocity left right) (AngularVelocity left' right') dt = mean_rates left right left' right'
+rates_between d per_tick (Ticks left right) (AngularVelocity left' right') dt = rates +0 +0
+rates_between d per_tick (AngularVelocity left right) (Ticks left' right') dt = rates +0 +0

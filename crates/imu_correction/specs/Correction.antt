@@ -43,7 +43,7 @@ rotation_with_bias s b =
 
 -- x + ∂x/∂bg · δbg + ∂x/∂ba · δba
 unfoldable pub vector_with : List Float → List Float → List Float → List Float → List Float → List Float
-vector_with x byGyro byAccel δbg δba = vector_sum (vector_sum x (transform byGyro δbg)) (transform byAccel δba)
+vector_with x by_gyro by_accel δbg δba = vector_sum (vector_sum x (transform by_gyro δbg)) (transform by_accel δba)
 
 unfoldable pub velocity_with : PreintegratedImu → ImuBias → List Float
 velocity_with s b = vector_with s.delta_velocity s.d_velocity_d_bias_gyro s.d_velocity_d_bias_accel (gyro_change s b) (accel_change s b)

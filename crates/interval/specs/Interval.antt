@@ -17,10 +17,10 @@ unfoldable pub ratio_of : Float → Float → Float
 ratio_of dt wz = larger (dt ⊘ c0·01) (size (wz ⊗ dt) ⊘ c0·02)
 
 -- the twist between the readings, k the halving count of its ratio, "h = dt/2^k", and wz·h
-unfoldable pub interval_of : DifferentialDrive → (perTick : Float) → WheelMeasurement → WheelMeasurement → Interval
-interval_of d perTick last m =
+unfoldable pub interval_of : DifferentialDrive → (per_tick : Float) → WheelMeasurement → WheelMeasurement → Interval
+interval_of d per_tick last m =
     let dt = m.timestamp ⊖ last.timestamp in
-    let v = twist_of d (rates_between d perTick last.reading m.reading dt) in
+    let v = twist_of d (rates_between d per_tick last.reading m.reading dt) in
     let k = halving_count (ratio_of dt v.wz) in
     let h = dt ⊘ power k in
     record { dt = dt; twist = v; halvings = k; substep = h; angle = v.wz ⊗ h }

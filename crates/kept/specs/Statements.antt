@@ -16,8 +16,8 @@ abbrev pub +∞ : Float
 +∞ = of_bits binary64 0x7ff0000000000000
 
 -- a cart with wheels of radius r on a track, so many ticks to a turn
-abbrev pub cart : (r track perTurn : Float) → DifferentialDrive
-cart r track perTurn = record { left_radius = r; right_radius = r; track_width = track; ticks_per_revolution = perTurn; counter_width = 64 }
+abbrev pub cart : (r track per_turn : Float) → DifferentialDrive
+cart r track per_turn = record { left_radius = r; right_radius = r; track_width = track; ticks_per_revolution = per_turn; counter_width = 64 }
 
 abbrev pub noises : (wheel lateral : Float) → WheelNoise
 noises wheel lateral = record { wheel_rate = wheel; lateral_velocity = lateral }

@@ -25,7 +25,7 @@ field_zero t = refl
 of_fields : (b x t : ℕ) → b / 2 ^ 52 ≡ x → b % 2 ^ 52 ≡ t → pattern_grains b ≡ field_grains x t
 of_fields b x t p q = pattern_is b ∙ ap (λ (a : ℕ). field_grains a (b % 2 ^ 52)) p ∙ ap (field_grains x) q
 
--- a normal fieldGrains: h + 1 in the field, R with its leading digit
+-- a normal one: h + 1 in the field, R with its leading digit
 pub pattern_at : (h R : ℕ) → 2 ^ 52 ≤ R → R < 2 ^ 53 → pattern_grains (h * 2 ^ 52 + R) ≡ R * 2 ^ h
 pattern_at h R l u =
     of_fields (h * 2 ^ 52 + R) (suc h) (R - 2 ^ 52) (field h R l u) (digits h R l u) ∙ field_suc h (R - 2 ^ 52) ∙ ap (λ (x : ℕ). x * 2 ^ h) (back R l)

@@ -27,7 +27,7 @@ whole_units l (negsuc k) h = (l - suc k, one-mul (2 ^ l) ∙ ap (λ (n : ℕ). 2
     few : suc k ≤ l
     few = le_of_suc-le-suc (lt_of_not-le (λ (more : l < suc k). not-le_of_lt (pow-lt more) h))
 
--- with W units to 1, and J of them to U / D, an m·U/D is m·J units, and where it is below X they are fewer than W-as-X
+-- with W units to 1, and J of them to U / D, an m·U/D is m·J units, and where it is below X they are fewer than W·X
 in_units : (m U D J W : ℕ) → U * W ≡ J * D → m * U * W ≡ m * J * D
 in_units m U D J W e = mul_assoc m U W ∙ ap (λ (n : ℕ). m * n) e ∙ sym (mul_assoc m J D)
 

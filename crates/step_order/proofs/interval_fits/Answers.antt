@@ -1,4 +1,4 @@
--- `interval_fits` meets its contract: the tests in the order of the definition. `cN` is the place where test N was passed. Assumes nothing.
+-- `interval_fits` meets its contract: the tests in the order of the definition. Assumes nothing.
 use mathlib.Core.Path.{sym}
 use Rattle.step_order.specs.Order.{interval_fits}
 use Rattle.step_order.proofs.interval_fits.Goals as goal

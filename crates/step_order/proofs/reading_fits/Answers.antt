@@ -1,4 +1,4 @@
--- `reading_fits` meets its contract: the tests in the order of the definition. `cN` is the place where test N was passed. Assumes nothing.
+-- `reading_fits` meets its contract: the tests in the order of the definition. Assumes nothing.
 use mathlib.Core.Path.{sym}
 use Rattle.step_order.specs.Order.{reading_fits}
 use Rattle.step_order.proofs.reading_fits.Goals as goal

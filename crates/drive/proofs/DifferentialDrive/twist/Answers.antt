@@ -1,4 +1,4 @@
--- `twist` meets its contract: the tests in the order of the definition. `cN` is the place where test N was passed. Assumes nothing.
+-- `twist` meets its contract: the tests in the order of the definition. Assumes nothing.
 use Rattle.drive.specs.Drive.{twist_asked}
 use mathlib.Core.Path.{sym}
 use Rattle.drive.proofs.DifferentialDrive.twist.Goals as goal

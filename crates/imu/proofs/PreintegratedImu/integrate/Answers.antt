@@ -1,4 +1,4 @@
--- `PreintegratedImu::integrate` meets its contract: the tests in the order of the definition. `cN` is the place where test N was passed. The state that is computed is as
+-- `PreintegratedImu::integrate` meets its contract: the tests in the order of the definition. The state that is computed is as
 -- finite as the one that is defined, and equal to it where it is finite (proofs/step/Lean.antt). Assumes nothing.
 use mathlib.Core.Path.{sym, ◌∙◌}
 use Rattle.number.proofs.float.PlusZero.{both}

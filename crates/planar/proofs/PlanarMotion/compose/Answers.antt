@@ -1,4 +1,4 @@
--- `compose` meets its contract: the tests in the order of the definition. `cN` is the place where test N was passed. Assumes nothing.
+-- `compose` meets its contract: the tests in the order of the definition. Assumes nothing.
 use Rattle.planar.specs.Compose.{compose_of}
 use mathlib.Core.Path.{sym, ◌∙◌}
 use Rattle.planar.proofs.PlanarMotion.compose.Goals as goal
