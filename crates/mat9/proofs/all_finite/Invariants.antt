@@ -1,4 +1,4 @@
--- `all_finite` meets its contract. The invariant: `yes` says whether the first n numbers are finite. The measure is the number of those left. Assumes nothing.
+-- `all_finite` meets its contract. The invariant: `yes` says whether the first n numbers are finite. Assumes nothing.
 use mathlib.Core.Path.{◌≡◌}
 use Prim.Native.Nat.{◌≤◌}
 use lib.ListN.{length, take}

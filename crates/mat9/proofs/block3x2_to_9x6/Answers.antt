@@ -1,5 +1,4 @@
--- `block3x2_to_9x6` meets its contract. The invariants: the columns before c are filled, and of column c the rows before r.
--- The measures are the numbers of columns and of rows left. Assumes nothing.
+-- `block3x2_to_9x6` meets its contract. The invariants: the columns before c are filled, and of column c the rows before r. Assumes nothing.
 use mathlib.Core.Path.{refl}
 use native.Mathlib.Omega.{arith}
 use Rattle.mat9.specs.Matrix.{blocks}

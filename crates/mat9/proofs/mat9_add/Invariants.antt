@@ -1,5 +1,4 @@
--- `mat9_add` meets its contract. The invariant: the first n places are filled; place n is row n % 9 of column n / 9. The measure is the number of places left.
--- Assumes nothing.
+-- `mat9_add` meets its contract. The invariant: the first n places are filled; place n is row n % 9 of column n / 9. Assumes nothing.
 use Rattle.number.specs.Float.{◌⊕◌}
 use Rattle.number.proofs.Filled.{Filled}
 use Rattle.mat9.specs.Matrix.{entry}
