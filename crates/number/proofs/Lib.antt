@@ -4,4 +4,5 @@ pub mod Below
 pub mod Cases
 pub mod Filled
 pub mod Tabulated
+pub mod Refusals
 pub mod Statements

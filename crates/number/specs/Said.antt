@@ -1,6 +1,6 @@
 -- What an answer says in 01's numbers. Every answer that is an enum has one definition into `Said`, the contracts speak through it,
 -- and it is proved that what is said determines the case (`proofs/Cases.antt` of the enum's crate).
-use Rattle.std.specs.Prelude.{ℕ, List, [], Float}
+use Rattle.std.specs.Prelude.{ℕ, List, [], Float, Result, Ok, Err}
 
 -- the value that was asked for, or 01's refusal number and the values that the refusal carries
 pub data Said (A : Type 0) : Type 0 where
@@ -38,3 +38,18 @@ accepts v = told (gives tt) v
 
 abbrev pub refuses : {A : Type 0} → ℕ → A → Told A
 refuses n v = told (refusal n) v
+
+-- ---- what a `Result` says, by the row of each refusal
+
+abbrev pub said_result : {A E : Type 0} → (E → Row) → Result A E → Said A
+said_result row_of (Ok v) = gives v
+said_result row_of (Err e) = refused_by (row_of e)
+
+-- where 01 says that a refusal gives no value, `none` stands for it
+abbrev pub told_result : {A E : Type 0} → (E → Row) → A → Result A E → Told A
+told_result row_of none (Ok v) = accepts v
+told_result row_of none (Err e) = told (refused_by (row_of e)) none
+
+-- a call that changes what it is lent, and what that is after it
+abbrev pub told_after : {A E : Type 0} → (E → Row) → Result (Unit {0}) E → A → Told A
+told_after row_of r v = told (said_result row_of r) v

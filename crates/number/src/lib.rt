@@ -4,11 +4,13 @@
 
 pub mod float;
 pub mod halving;
+mod refusal;
 pub mod tick;
 pub mod whole;
 
 pub use float::{is_finite, is_finite_not_negative, is_finite_positive, larger, size};
 pub use halving::{Halved, halvings};
+pub use refusal::{Numbered, Refusal};
 pub use tick::{tick_difference, tick_in_range};
 pub use whole::whole_to_f64;
 
