@@ -18,10 +18,10 @@
 // sigma stand behind a tolerance, and so does the matrix of 3.
 #![tactic(auto)]
 
+use number::Numbered;
 use planar::PlanarMotion;
-use robust::Huber;
-use stationary::{GyroMean, Joined, StationaryFactor, StationaryGyro};
-use stationary_information::{GyroRow, StationaryInfo};
+use stationary::{StationaryFactor, StationaryGyro};
+use stationary_information::StationaryInfo;
 use std::io;
 use wheel_factor::{Extrinsic, WheelOdomFactor};
 use wheel_odom::{Information, Outcome, WheelOdomMeasurement};
@@ -131,39 +131,35 @@ fn ask_still_factor(rt: &(impl Input + Print)) -> io::Result<()> {
 
 fn ask_still_information(rt: &(impl Input + Print)) -> io::Result<()> {
     let f = read_still(rt);
-    let informed = stationary_information::information(f);
-    let outcome = informed.outcome;
     cases::print_word(rt, f.is_valid() as u64)?;
-    cases::print_word(rt, still_number(outcome))?;
-    print_info(rt, informed.info)
-}
-
-fn still_number(outcome: stationary_information::Outcome) -> u64 {
-    match outcome {
-        stationary_information::Outcome::Given => 0,
-        stationary_information::Outcome::InvalidFactor => 11,
-        stationary_information::Outcome::NonFinite => 2,
+    match stationary_information::information(f) {
+        Ok(info) => {
+            cases::print_word(rt, 0)?;
+            print_info(rt, info)
+        }
+        Err(refusal) => {
+            cases::print_word(rt, refusal.number())?;
+            print_info(rt, StationaryInfo::BLANK)
+        }
     }
 }
 
 fn ask_still_composed(rt: &(impl Input + Print)) -> io::Result<()> {
     let first = read_still(rt);
     match first.compose(read_still(rt)) {
-        Joined::Factor(f) => {
+        Ok(f) => {
             cases::print_word(rt, 0)?;
             print_still(rt, f)
         }
-        Joined::InvalidFactor => cases::print_word(rt, 11),
-        Joined::NotJoined => cases::print_word(rt, 10),
-        Joined::NonFinite => cases::print_word(rt, 2),
+        Err(refusal) => cases::print_word(rt, refusal.number()),
     }
 }
 
 fn ask_limits_joined(rt: &(impl Input + Print)) -> io::Result<()> {
     let first = read_limit(rt);
-    let joined = first.joined(read_limit(rt));
+    let joined = robust::joined(first, read_limit(rt));
     print_limit(rt, joined)?;
-    cases::print_word(rt, joined.is_valid() as u64)
+    cases::print_word(rt, robust::is_valid(joined) as u64)
 }
 
 // ---- what a record holds
@@ -207,14 +203,10 @@ fn read_factor(rt: &impl Input) -> WheelOdomFactor {
     )
 }
 
-fn read_limit(rt: &impl Input) -> Huber {
+fn read_limit(rt: &impl Input) -> Option<f64> {
     let is_there = cases::read_word(rt) == 1;
     let limit = cases::read_f64(rt);
-    if is_there {
-        Huber::Limit(limit)
-    } else {
-        Huber::Absent
-    }
+    is_there.then_some(limit)
 }
 
 fn read_gyro(rt: &impl Input) -> StationaryGyro {
@@ -224,14 +216,10 @@ fn read_gyro(rt: &impl Input) -> StationaryGyro {
     StationaryGyro::new(x, y, z, cases::read_f64(rt))
 }
 
-fn read_mean(rt: &impl Input) -> GyroMean {
+fn read_mean(rt: &impl Input) -> Option<StationaryGyro> {
     let is_there = cases::read_word(rt) == 1;
     let gyro = read_gyro(rt);
-    if is_there {
-        GyroMean::Measured(gyro)
-    } else {
-        GyroMean::Unmeasured
-    }
+    is_there.then_some(gyro)
 }
 
 fn read_still(rt: &impl Input) -> StationaryFactor {
@@ -309,10 +297,10 @@ fn print_extrinsic(rt: &impl Print, t: Extrinsic) -> io::Result<()> {
     cases::print_numbers(rt, &translation)
 }
 
-fn print_limit(rt: &impl Print, limit: Huber) -> io::Result<()> {
+fn print_limit(rt: &impl Print, limit: Option<f64>) -> io::Result<()> {
     match limit {
-        Huber::Absent => cases::print_word(rt, 0),
-        Huber::Limit(k) => {
+        None => cases::print_word(rt, 0),
+        Some(k) => {
             cases::print_word(rt, 1)?;
             cases::print_numbers(rt, &[k])
         }
@@ -320,13 +308,14 @@ fn print_limit(rt: &impl Print, limit: Huber) -> io::Result<()> {
 }
 
 fn print_still(rt: &impl Print, f: StationaryFactor) -> io::Result<()> {
-    let mean = f.gyro;
     let c = f.calib;
-    let limit = f.huber_chi2;
     cases::print_word(rt, f.from_idx as u64)?;
     cases::print_word(rt, f.to_idx as u64)?;
     cases::print_numbers(rt, &[f.span_s])?;
-    print_mean(rt, mean)?;
+    match f.gyro {
+        None => cases::print_word(rt, 0)?,
+        Some(g) => print_gyro(rt, g)?,
+    }
     cases::print_numbers(
         rt,
         &[
@@ -344,14 +333,7 @@ fn print_still(rt: &impl Print, f: StationaryFactor) -> io::Result<()> {
             f.velocity_sigma_m_s,
         ],
     )?;
-    print_limit(rt, limit)
-}
-
-fn print_mean(rt: &impl Print, mean: GyroMean) -> io::Result<()> {
-    match mean {
-        GyroMean::Unmeasured => cases::print_word(rt, 0),
-        GyroMean::Measured(g) => print_gyro(rt, g),
-    }
+    print_limit(rt, f.huber_chi2)
 }
 
 fn print_gyro(rt: &impl Print, g: StationaryGyro) -> io::Result<()> {
@@ -360,15 +342,13 @@ fn print_gyro(rt: &impl Print, g: StationaryGyro) -> io::Result<()> {
 }
 
 fn print_info(rt: &impl Print, info: StationaryInfo) -> io::Result<()> {
-    let pose = info.pose;
-    let row = info.gyro_mean;
-    cases::print_numbers(rt, &pose)?;
+    cases::print_numbers(rt, &info.pose)?;
     cases::print_numbers(rt, &[info.velocity, info.gyro_bias, info.accel_bias])?;
-    match row {
-        GyroRow::NoRow => cases::print_word(rt, 0),
-        GyroRow::Row(g, information) => {
-            print_gyro(rt, g)?;
-            cases::print_numbers(rt, &[information])
+    match info.gyro_mean {
+        None => cases::print_word(rt, 0),
+        Some(row) => {
+            print_gyro(rt, row.mean)?;
+            cases::print_numbers(rt, &[row.information])
         }
     }
 }

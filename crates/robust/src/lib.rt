@@ -1,48 +1,30 @@
-// The Huber limit that wheel and still factors share: a threshold on a residual's chi², or none.
+// The Huber limit that wheel and still factors share: a threshold on a residual's chi², or none, where the factor stays quadratic.
 #![tactic(auto)]
 
 ghost use Rattle.std.specs.Prelude.{◌≡◌};
 ghost use Rattle.robust.specs.Huber.{valid_huber, joined_of, tighter};
 
-#[derive(Clone, Copy)]
-pub enum Huber {
-    // The factor stays quadratic.
-    Absent,
-    Limit(f64),
+// The tighter of two limits; either makes the joined factor robust.
+pub fn joined(first: Option<f64>, next: Option<f64>) -> Option<f64>
+    ensures { result ≡ joined_of first next }
+{
+    match (first, next) {
+        (Some(a), Some(b)) => Some(if is_tighter(a, b) { b } else { a }),
+        (limit, None) | (None, limit) => limit,
+    }
 }
 
-impl Huber {
-    // The tighter of two limits; either makes the joined factor robust.
-    pub fn joined(self, next: Huber) -> Huber
-        ensures { result ≡ joined_of self next }
-    {
-        let Huber::Limit(a) = self else {
-            return next;
-        };
-        let Huber::Limit(b) = next else {
-            return self;
-        };
-        if is_tighter(a, b) {
-            Huber::Limit(b)
-        } else {
-            Huber::Limit(a)
-        }
-    }
-
-    // Absent, or finite and above 0.
-    pub fn is_valid(self) -> bool
-        ensures { result ≡ valid_huber self }
-    {
-        match self {
-            Huber::Absent => true,
-            Huber::Limit(a) => number::is_finite_positive(a),
-        }
-    }
+// None, or finite and above 0.
+pub fn is_valid(limit: Option<f64>) -> bool
+    ensures { result ≡ valid_huber limit }
+{
+    limit.is_none_or(|a| number::is_finite_positive(a))
 }
 
 // b is below a, or a number where a is none.
+#[tactic(auto, unfolding(crate::specs::Huber::tighter))]
 fn is_tighter(a: f64, b: f64) -> bool
     ensures { result ≡ tighter a b }
 {
-    (b < a) | ((a != a) & (b == b))
+    (b < a) | (a.is_nan() & !b.is_nan())
 }

@@ -1,14 +1,11 @@
 -- 01, Still stretches: "`is_valid` as in stationary.rs. A stretch is still when its caller says so."
-use Rattle.std.specs.Prelude.{ℕ, Bool, true, not, ◌&&◌, eqb, Float}
+use Rattle.std.specs.Prelude.{ℕ, Bool, true, not, ◌&&◌, eqb, Float, Option, Some, None}
 use Rattle.number.specs.Float.{finite}
 use Rattle.number.specs.Fit.{finite_positive}
 use Rattle.number.specs.Constants.{c0·01, c0·002, c21·03}
-use Rattle.robust.specs.declared.Huber.TheVariants.{Limit}
 use Rattle.robust.specs.Huber.{valid_huber}
 use Rattle.inertial.specs.declared.ImuCalib.{ImuCalib}
 use Rattle.stationary.specs.declared.StationaryGyro.{StationaryGyro}
-use Rattle.stationary.specs.declared.GyroMean.{GyroMean}
-use Rattle.stationary.specs.declared.GyroMean.TheVariants.{Unmeasured, Measured}
 use Rattle.stationary.specs.declared.StationaryFactor.{StationaryFactor}
 
 -- the default sigmas 0.002, 0.002 and 0.01, the default limit 21.03 and no gyro mean
@@ -17,12 +14,12 @@ factor_of from to span calib = record {
   from_idx = from;
   to_idx = to;
   span_s = span;
-  gyro = Unmeasured;
+  gyro = None;
   calib = calib;
   translation_sigma_m = c0·002;
   rotation_sigma_rad = c0·002;
   velocity_sigma_m_s = c0·01;
-  huber_chi2 = Limit c21·03;
+  huber_chi2 = Some c21·03;
 }
 
 abbrev pub with_gyro : StationaryFactor → StationaryGyro → StationaryFactor
@@ -30,7 +27,7 @@ with_gyro f g = record {
   from_idx = f.from_idx;
   to_idx = f.to_idx;
   span_s = f.span_s;
-  gyro = Measured g;
+  gyro = Some g;
   calib = f.calib;
   translation_sigma_m = f.translation_sigma_m;
   rotation_sigma_rad = f.rotation_sigma_rad;
@@ -42,9 +39,9 @@ unfoldable pub finite_mean : StationaryGyro → Bool
 finite_mean g = finite g.x && finite g.y && finite g.z
 
 -- "a finite gyro mean over a positive time (with a positive gyro noise density)", if there is one
-abbrev pub valid_gyro : GyroMean → Float → Bool
-valid_gyro Unmeasured noise = true
-valid_gyro (Measured g) noise = finite_positive g.covered_s && finite_positive noise && finite_mean g
+abbrev pub valid_gyro : Option StationaryGyro → Float → Bool
+valid_gyro None noise = true
+valid_gyro (Some g) noise = finite_positive g.covered_s && finite_positive noise && finite_mean g
 
 unfoldable pub valid_sigmas : StationaryFactor → Bool
 valid_sigmas f = finite_positive f.translation_sigma_m && finite_positive f.rotation_sigma_rad && finite_positive f.velocity_sigma_m_s

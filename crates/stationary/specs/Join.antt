@@ -1,15 +1,13 @@
 -- 01, Still stretches: "`compose`: 11, then 10 (indices do not meet, or the ends coincide), then 2 for the new span, mean or covered time. Means are
 -- weighted by covered seconds, spans add, sigmas take the larger, the first calibration is kept, Huber limits join as for wheel factors."
-use Rattle.std.specs.Prelude.{Bool, true, not, ◌&&◌, ◌||◌, eqb, Float}
+use Rattle.std.specs.Prelude.{Bool, true, not, ◌&&◌, ◌||◌, eqb, Float, Option, Some, None, Result}
 use Rattle.number.specs.Float.{◌⊕◌, ◌⊗◌, ◌⊘◌, ◌when◌else◌, finite, larger}
-use Rattle.number.specs.Said.{Said, gives, refusal}
+use Rattle.number.specs.Said.{Row, row, Said, said_result, gives, refusal}
 use Rattle.robust.specs.Huber.{joined_of}
 use Rattle.stationary.specs.declared.StationaryGyro.{StationaryGyro}
-use Rattle.stationary.specs.declared.GyroMean.{GyroMean}
-use Rattle.stationary.specs.declared.GyroMean.TheVariants.{Unmeasured, Measured}
 use Rattle.stationary.specs.declared.StationaryFactor.{StationaryFactor}
-use Rattle.stationary.specs.declared.Joined.{Joined}
-use Rattle.stationary.specs.declared.Joined.TheVariants as J
+use Rattle.stationary.specs.declared.Refusal.{Refusal}
+use Rattle.stationary.specs.declared.Refusal.TheVariants as R
 use Rattle.stationary.specs.Factor.{finite_mean, valid_factor}
 
 -- (a·s + b·t) / (s + t)
@@ -25,10 +23,10 @@ mean_of a b = record {
 }
 
 -- the one mean that is there, or the two weighted
-abbrev pub joined_gyro : GyroMean → GyroMean → GyroMean
-joined_gyro Unmeasured second = second
-joined_gyro (Measured a) Unmeasured = Measured a
-joined_gyro (Measured a) (Measured b) = Measured (mean_of a b)
+abbrev pub joined_gyro : Option StationaryGyro → Option StationaryGyro → Option StationaryGyro
+joined_gyro None second = second
+joined_gyro (Some a) None = Some a
+joined_gyro (Some a) (Some b) = Some (mean_of a b)
 
 unfoldable pub joined_factor : StationaryFactor → StationaryFactor → StationaryFactor
 joined_factor a b = record {
@@ -43,16 +41,18 @@ joined_factor a b = record {
   huber_chi2 = joined_of a.huber_chi2 b.huber_chi2;
 }
 
-abbrev pub finite_gyro : GyroMean → Bool
-finite_gyro Unmeasured = true
-finite_gyro (Measured g) = finite_mean g && finite g.covered_s
+abbrev pub finite_gyro : Option StationaryGyro → Bool
+finite_gyro None = true
+finite_gyro (Some g) = finite_mean g && finite g.covered_s
 
 -- 01, Refusal numbers: 11 InvalidFactor, 10 NotJoined, 2 NonFinite
-abbrev pub said_joined : Joined → Said StationaryFactor
-said_joined (J.Factor f) = gives f
-said_joined J.InvalidFactor = refusal 11
-said_joined J.NotJoined = refusal 10
-said_joined J.NonFinite = refusal 2
+abbrev pub row_of : Refusal → Row
+row_of R.InvalidFactor = row 11
+row_of R.NotJoined = row 10
+row_of R.NonFinite = row 2
+
+abbrev pub said_joined : Result StationaryFactor Refusal → Said StationaryFactor
+said_joined r = said_result row_of r
 
 unfoldable pub compose_of : StationaryFactor → StationaryFactor → Said StationaryFactor
 compose_of a b =

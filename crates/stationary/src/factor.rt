@@ -2,9 +2,8 @@
 ghost use Rattle.std.specs.Prelude.{◌≡◌};
 ghost use Rattle.stationary.specs.Factor.{factor_of, finite_mean, valid_factor, valid_gyro, valid_sigmas, valid_walk, with_gyro};
 
-use crate::{GyroMean, StationaryFactor, StationaryGyro};
+use crate::{StationaryFactor, StationaryGyro};
 use inertial::ImuCalib;
-use robust::Huber;
 
 impl StationaryGyro {
     pub fn new(x: f64, y: f64, z: f64, covered_s: f64) -> StationaryGyro
@@ -13,6 +12,7 @@ impl StationaryGyro {
         StationaryGyro { x, y, z, covered_s }
     }
 
+    #[tactic(auto, unfolding(crate::specs::Factor::finite_mean))]
     pub fn is_finite(self) -> bool
         ensures { result ≡ finite_mean self }
     {
@@ -38,12 +38,12 @@ impl StationaryFactor {
             from_idx,
             to_idx,
             span_s,
-            gyro: GyroMean::Unmeasured,
+            gyro: None,
             calib,
             translation_sigma_m: StationaryFactor::DEFAULT_TRANSLATION_SIGMA_M,
             rotation_sigma_rad: StationaryFactor::DEFAULT_ROTATION_SIGMA_RAD,
             velocity_sigma_m_s: StationaryFactor::DEFAULT_VELOCITY_SIGMA_M_S,
-            huber_chi2: Huber::Limit(StationaryFactor::DEFAULT_HUBER_CHI2),
+            huber_chi2: Some(StationaryFactor::DEFAULT_HUBER_CHI2),
         }
     }
 
@@ -51,26 +51,25 @@ impl StationaryFactor {
         ensures { result ≡ with_gyro self gyro }
     {
         StationaryFactor {
-            gyro: GyroMean::Measured(gyro),
+            gyro: Some(gyro),
             ..self
         }
     }
 
     // Whether the factor can enter a solve.
+    #[tactic(auto, unfolding(crate::specs::Factor::valid_factor))]
     pub fn is_valid(self) -> bool
         ensures { result ≡ valid_factor self }
     {
-        let calib = self.calib;
-        let huber = self.huber_chi2;
-        let gyro = self.gyro;
         (self.from_idx != self.to_idx)
             & number::is_finite_positive(self.span_s)
             & self.has_valid_sigmas()
-            & has_valid_walk(calib)
-            & huber.is_valid()
-            & gyro.is_valid(calib.gyro_noise)
+            & has_valid_walk(self.calib)
+            & robust::is_valid(self.huber_chi2)
+            & is_valid_gyro(self.gyro, self.calib.gyro_noise)
     }
 
+    #[tactic(auto, unfolding(crate::specs::Factor::valid_sigmas))]
     fn has_valid_sigmas(self) -> bool
         ensures { result ≡ valid_sigmas self }
     {
@@ -80,22 +79,16 @@ impl StationaryFactor {
     }
 }
 
-impl GyroMean {
-    // No mean, or a finite one over a time above 0, with a gyro noise above 0.
-    fn is_valid(self, noise: f64) -> bool
-        ensures { result ≡ valid_gyro self noise }
-    {
-        match self {
-            GyroMean::Unmeasured => true,
-            GyroMean::Measured(g) => {
-                number::is_finite_positive(g.covered_s)
-                    & number::is_finite_positive(noise)
-                    & g.is_finite()
-            }
-        }
-    }
+// No mean, or a finite one over a time above 0, with a gyro noise above 0.
+fn is_valid_gyro(gyro: Option<StationaryGyro>, noise: f64) -> bool
+    ensures { result ≡ valid_gyro gyro noise }
+{
+    gyro.is_none_or(|g| {
+        number::is_finite_positive(g.covered_s) & number::is_finite_positive(noise) & g.is_finite()
+    })
 }
 
+#[tactic(auto, unfolding(crate::specs::Factor::valid_walk))]
 fn has_valid_walk(calib: ImuCalib) -> bool
     ensures { result ≡ valid_walk calib }
 {

@@ -4,8 +4,11 @@
 mod factor;
 mod join;
 
+ghost use Rattle.std.specs.Prelude.{◌≡◌};
+ghost use Rattle.stationary.specs.Join.{row_of};
+
 use inertial::ImuCalib;
-use robust::Huber;
+use number::Numbered;
 
 // The mean raw gyro rate in rad/s, body frame, and the seconds of samples behind it.
 #[derive(Clone, Copy)]
@@ -17,32 +20,39 @@ pub struct StationaryGyro {
 }
 
 #[derive(Clone, Copy)]
-pub enum GyroMean {
-    Unmeasured,
-    Measured(StationaryGyro),
-}
-
-#[derive(Clone, Copy)]
 pub struct StationaryFactor {
     // Earlier and later keyframe.
     pub from_idx: usize,
     pub to_idx: usize,
     // Seconds between the two: scales the bias random walk.
     pub span_s: f64,
-    pub gyro: GyroMean,
+    // None where no rate was measured.
+    pub gyro: Option<StationaryGyro>,
     pub calib: ImuCalib,
     // Sigmas of the zero relative translation (m) and rotation (rad), and of the zero velocity at each end (m/s).
     pub translation_sigma_m: f64,
     pub rotation_sigma_rad: f64,
     pub velocity_sigma_m_s: f64,
     // Threshold on the twelve-row pose and velocity chi².
-    pub huber_chi2: Huber,
+    pub huber_chi2: Option<f64>,
 }
 
-#[derive(Clone, Copy)]
-pub enum Joined {
-    Factor(StationaryFactor),
+// Why two factors are not joined.
+#[derive(Clone, Copy, Debug, PartialEq, Eq)]
+pub enum Refusal {
     InvalidFactor,
     NotJoined,
     NonFinite,
+}
+
+impl Numbered for Refusal {
+    ghost row_of = { row_of };
+
+    fn number(self) -> u64 {
+        match self {
+            Refusal::InvalidFactor => 11,
+            Refusal::NotJoined => 10,
+            Refusal::NonFinite => 2,
+        }
+    }
 }

@@ -1,20 +1,16 @@
 -- 01, Still stretches: "`information`: 11, then 2." Every block is diagonal.
-use Rattle.std.specs.Prelude.{ℕ, ◌+◌, ◌*◌, Bool, true, not, ◌&&◌, List, [], ◌∷◌, replicate, get_or, Float}
+use Rattle.std.specs.Prelude.{ℕ, ◌+◌, ◌*◌, Bool, true, not, ◌&&◌, List, [], ◌∷◌, replicate, get_or, Float, Option, Some, None, Result}
 use Rattle.std.specs.Float.{nan}
 use Rattle.number.specs.Float.{◌⊕◌, ◌⊗◌, ◌⊘◌, ◌when◌else◌, finite}
 use Rattle.number.specs.Constants.{one, c12, zero as +0}
 use Rattle.number.specs.Fit.{inverse_square}
-use Rattle.number.specs.Said.{Said, gives, refusal, Told, told, accepts, refuses}
+use Rattle.number.specs.Said.{Row, row, Told, told_result, accepts, refuses}
 use Rattle.stationary.specs.declared.StationaryGyro.{StationaryGyro}
-use Rattle.stationary.specs.declared.GyroMean.{GyroMean}
-use Rattle.stationary.specs.declared.GyroMean.TheVariants.{Unmeasured, Measured}
 use Rattle.stationary.specs.declared.StationaryFactor.{StationaryFactor}
 use Rattle.stationary_information.specs.declared.GyroRow.{GyroRow}
-use Rattle.stationary_information.specs.declared.GyroRow.TheVariants.{NoRow, Row}
-use Rattle.stationary_information.specs.declared.Outcome.{Outcome}
-use Rattle.stationary_information.specs.declared.Outcome.TheVariants as O
+use Rattle.stationary_information.specs.declared.Refusal.{Refusal}
+use Rattle.stationary_information.specs.declared.Refusal.TheVariants as R
 use Rattle.stationary_information.specs.declared.StationaryInfo.{StationaryInfo}
-use Rattle.stationary_information.specs.declared.Informed.{Informed}
 use Rattle.stationary.specs.Factor.{valid_factor, finite_mean}
 
 -- t three times, then r three times, on the diagonal of thirty-six numbers
@@ -36,9 +32,9 @@ walk density span = density ⊗ density ⊗ span
 abbrev pub row_of : StationaryFactor → StationaryGyro → Float
 row_of f g = one ⊘ (f.calib.gyro_noise ⊗ f.calib.gyro_noise ⊘ g.covered_s ⊕ walk f.calib.gyro_bias_noise f.span_s ⊘ c12)
 
-abbrev pub gyro_row : StationaryFactor → GyroMean → GyroRow
-gyro_row f Unmeasured = NoRow
-gyro_row f (Measured g) = Row g (row_of f g)
+abbrev pub gyro_row : StationaryFactor → Option StationaryGyro → Option GyroRow
+gyro_row f None = None
+gyro_row f (Some g) = Some (record { mean = g; information = row_of f g })
 
 unfoldable pub info_of : StationaryFactor → StationaryInfo
 info_of f = record {
@@ -49,9 +45,9 @@ info_of f = record {
   gyro_mean = gyro_row f f.gyro;
 }
 
-abbrev pub finite_row : GyroRow → Bool
-finite_row NoRow = true
-finite_row (Row g w) = finite_mean g && finite w
+abbrev pub finite_row : Option GyroRow → Bool
+finite_row None = true
+finite_row (Some r) = finite_mean r.mean && finite r.information
 
 -- on the diagonal of the pose's six rows and columns
 abbrev pub pose_at : StationaryInfo → ℕ → Float
@@ -68,16 +64,15 @@ finite_info i =
     && finite_row i.gyro_mean
 
 abbrev pub blank_info : StationaryInfo
-blank_info = record { pose = replicate 36 +0; velocity = +0; gyro_bias = +0; accel_bias = +0; gyro_mean = NoRow }
+blank_info = record { pose = replicate 36 +0; velocity = +0; gyro_bias = +0; accel_bias = +0; gyro_mean = None }
 
 -- 01, Refusal numbers: 11 InvalidFactor, 2 NonFinite
-abbrev pub said_outcome : Outcome → Said (Unit {0})
-said_outcome O.Given = gives tt
-said_outcome O.InvalidFactor = refusal 11
-said_outcome O.NonFinite = refusal 2
+abbrev pub refusal_row : Refusal → Row
+refusal_row R.InvalidFactor = row 11
+refusal_row R.NonFinite = row 2
 
-abbrev pub told_informed : Informed → Told StationaryInfo
-told_informed r = told (said_outcome r.outcome) r.info
+abbrev pub told_informed : Result StationaryInfo Refusal → Told StationaryInfo
+told_informed r = told_result refusal_row blank_info r
 
 unfoldable pub information_of : StationaryFactor → Told StationaryInfo
 information_of f =

@@ -2,16 +2,16 @@
 #![tactic(auto)]
 
 ghost use Rattle.std.specs.Prelude.{◌≡◌};
-ghost use Rattle.number.specs.Said.{told};
-ghost use Rattle.stationary_information.specs.Information.{blank_info, finite_info, finite_row, gyro_row, info_of, information_of, pose_diagonal, row_of, said_outcome, told_informed};
+ghost use Rattle.stationary_information.specs.Information.{finite_info, finite_row, gyro_row, info_of, information_of, refusal_row, row_of, told_informed};
 
-use stationary::{GyroMean, StationaryFactor, StationaryGyro};
+use number::Numbered;
+use stationary::{StationaryFactor, StationaryGyro};
 
 // The measured mean rate and its information on each axis.
 #[derive(Clone, Copy)]
-pub enum GyroRow {
-    NoRow,
-    Row(StationaryGyro, f64),
+pub struct GyroRow {
+    pub mean: StationaryGyro,
+    pub information: f64,
 }
 
 #[derive(Clone, Copy)]
@@ -22,76 +22,73 @@ pub struct StationaryInfo {
     pub velocity: f64,
     pub gyro_bias: f64,
     pub accel_bias: f64,
-    pub gyro_mean: GyroRow,
+    // None where no rate was measured.
+    pub gyro_mean: Option<GyroRow>,
 }
 
-#[derive(Clone, Copy)]
-pub enum Outcome {
-    Given,
+// Why a factor has no information.
+#[derive(Clone, Copy, Debug, PartialEq, Eq)]
+pub enum Refusal {
     InvalidFactor,
     NonFinite,
 }
 
-#[derive(Clone, Copy)]
-pub struct Informed {
-    pub outcome: Outcome,
-    pub info: StationaryInfo,
-}
+impl Numbered for Refusal {
+    ghost row_of = { refusal_row };
 
-impl StationaryInfo {
-    // Stands where there is no information.
-    const BLANK: StationaryInfo = StationaryInfo {
-        pose: [0.0; 36],
-        velocity: 0.0,
-        gyro_bias: 0.0,
-        accel_bias: 0.0,
-        gyro_mean: GyroRow::NoRow,
-    };
-
-    // Every number that is not a written zero: of the pose, the two that its diagonal repeats.
-    fn is_finite(self) -> bool
-        ensures { result ≡ finite_info self }
-    {
-        let pose = self.pose;
-        let row = self.gyro_mean;
-        let translation = pose[0];
-        let rotation = pose[21];
-        number::is_finite(translation)
-            & number::is_finite(rotation)
-            & number::is_finite(self.velocity)
-            & number::is_finite(self.gyro_bias)
-            & number::is_finite(self.accel_bias)
-            & row.is_finite()
-    }
-}
-
-impl GyroRow {
-    fn is_finite(self) -> bool
-        ensures { result ≡ finite_row self }
-    {
+    fn number(self) -> u64 {
         match self {
-            GyroRow::NoRow => true,
-            GyroRow::Row(mean, information) => mean.is_finite() & number::is_finite(information),
+            Refusal::InvalidFactor => 11,
+            Refusal::NonFinite => 2,
         }
     }
 }
 
-pub fn information(factor: StationaryFactor) -> Informed
-    ensures { told_informed result ≡ information_of factor }
-{
-    if !factor.is_valid() {
-        return refused(Outcome::InvalidFactor);
-    }
-    let info = info(factor);
-    if !info.is_finite() {
-        return refused(Outcome::NonFinite);
-    }
-    Informed {
-        outcome: Outcome::Given,
-        info,
+impl StationaryInfo {
+    // Stands where there is no information.
+    pub const BLANK: StationaryInfo = StationaryInfo {
+        pose: [0.0; 36],
+        velocity: 0.0,
+        gyro_bias: 0.0,
+        accel_bias: 0.0,
+        gyro_mean: None,
+    };
+
+    // Every number that is not a written zero: of the pose, the two that its diagonal repeats.
+    #[tactic(auto, unfolding(crate::specs::Information::finite_info))]
+    fn is_finite(self) -> bool
+        ensures { result ≡ finite_info self }
+    {
+        number::is_finite(self.pose[0])
+            & number::is_finite(self.pose[21])
+            & number::is_finite(self.velocity)
+            & number::is_finite(self.gyro_bias)
+            & number::is_finite(self.accel_bias)
+            & is_finite_row(self.gyro_mean)
     }
 }
 
+fn is_finite_row(row: Option<GyroRow>) -> bool
+    ensures { result ≡ finite_row row }
+{
+    row.is_none_or(|r| r.mean.is_finite() & number::is_finite(r.information))
+}
+
+#[tactic(auto, unfolding(crate::specs::Information::information_of))]
+pub fn information(factor: StationaryFactor) -> Result<StationaryInfo, Refusal>
+    ensures { told_informed result ≡ information_of factor }
+{
+    if !factor.is_valid() {
+        return Err(Refusal::InvalidFactor);
+    }
+    let info = info(factor);
+    if !info.is_finite() {
+        return Err(Refusal::NonFinite);
+    }
+    Ok(info)
+}
+
+#[tactic(auto, using(crate::proofs::Diagonal::same), unfolding(crate::specs::Information::info_of))]
 fn info(factor: StationaryFactor) -> StationaryInfo
     ensures { result ≡ info_of factor }
 {
@@ -100,25 +97,23 @@ fn info(factor: StationaryFactor) -> StationaryInfo
     let t = factor.translation_sigma_m;
     let r = factor.rotation_sigma_rad;
     let v = factor.velocity_sigma_m_s;
-    let gyro_mean = gyro_row(factor);
     StationaryInfo {
-        pose: diagonal(1.0 / (t * t), 1.0 / (r * r)),
+        pose: mat9::diag_6x6(1.0 / (t * t), 1.0 / (r * r)),
         velocity: 1.0 / (v * v),
         gyro_bias: 1.0 / (calib.gyro_bias_noise * calib.gyro_bias_noise * span),
         accel_bias: 1.0 / (calib.accel_bias_noise * calib.accel_bias_noise * span),
-        gyro_mean,
+        gyro_mean: gyro_row(factor),
     }
 }
 
 // The row of the mean rate, if there is one.
-fn gyro_row(factor: StationaryFactor) -> GyroRow
+fn gyro_row(factor: StationaryFactor) -> Option<GyroRow>
     ensures { result ≡ gyro_row factor factor.gyro }
 {
-    let gyro = factor.gyro;
-    match gyro {
-        GyroMean::Unmeasured => GyroRow::NoRow,
-        GyroMean::Measured(g) => GyroRow::Row(g, row(factor, g)),
-    }
+    factor.gyro.map(|mean| GyroRow {
+        mean,
+        information: row(factor, mean),
+    })
 }
 
 // The variance of the mean of white noise falls with the seconds behind it; the bias's average over the span and that of its two ends differ by a
@@ -130,28 +125,4 @@ fn row(factor: StationaryFactor, g: StationaryGyro) -> f64
     let white = calib.gyro_noise * calib.gyro_noise / g.covered_s;
     let walk = calib.gyro_bias_noise * calib.gyro_bias_noise * factor.span_s;
     1.0 / (white + walk / 12.0)
-}
-
-// Why there is no information, beside the blank.
-fn refused(outcome: Outcome) -> Informed
-    ensures { told_informed result ≡ told (said_outcome outcome) blank_info }
-{
-    Informed {
-        outcome,
-        info: StationaryInfo::BLANK,
-    }
-}
-
-// t for the three translations, r for the three rotations.
-fn diagonal(t: f64, r: f64) -> [f64; 36]
-    ensures { result ≡ pose_diagonal t r }
-{
-    let mut pose = [0.0; 36];
-    pose[0] = t;
-    pose[7] = t;
-    pose[14] = t;
-    pose[21] = r;
-    pose[28] = r;
-    pose[35] = r;
-    pose
 }

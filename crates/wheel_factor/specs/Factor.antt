@@ -1,13 +1,11 @@
 -- 01, Information of wheel factors: the factor. `is_valid` follows the file.
-use Rattle.std.specs.Prelude.{ℕ, Bool, true, false, not, ◌&&◌, [], ◌∷◌, eqb}
+use Rattle.std.specs.Prelude.{ℕ, Bool, true, false, not, ◌&&◌, [], ◌∷◌, eqb, Float, Option, None}
 use Rattle.number.specs.Float.{◌when◌else◌}
 use Rattle.number.specs.Constants.{zero as +0}
 use Rattle.number.specs.Said.{Said, gives, refused, Told, told, accepts, refuses}
 use Rattle.mat3.specs.Matrix.{zeros, finite_matrix}
 use Rattle.vec3.specs.Vector.{finite_vector}
 use Rattle.robust.specs.Huber.{valid_huber, joined_of}
-use Rattle.robust.specs.declared.Huber.{Huber}
-use Rattle.robust.specs.declared.Huber.TheVariants.{Absent}
 use Rattle.wheel_odom.specs.declared.WheelOdomMeasurement.{WheelOdomMeasurement}
 use Rattle.wheel_odom.specs.Measurement.{blank, compose_of, said_outcome}
 use Rattle.wheel_odom.specs.Information.{information_of}
@@ -15,7 +13,7 @@ use Rattle.wheel_factor.specs.declared.Extrinsic.{Extrinsic}
 use Rattle.wheel_factor.specs.declared.WheelOdomFactor.{WheelOdomFactor}
 use Rattle.wheel_factor.specs.declared.ComposedFactor.{ComposedFactor}
 
-abbrev pub factor_of : ℕ → ℕ → WheelOdomMeasurement → Extrinsic → Extrinsic → Huber → WheelOdomFactor
+abbrev pub factor_of : ℕ → ℕ → WheelOdomMeasurement → Extrinsic → Extrinsic → Option Float → WheelOdomFactor
 factor_of from to m first last huber = record { from_idx = from; to_idx = to; measurement = m; t_cb_from = first; t_cb_to = last; huber_chi2 = huber }
 
 abbrev pub finite_extrinsic : Extrinsic → Bool
@@ -40,7 +38,7 @@ no_extrinsic = record { rotation = zeros; translation = +0 ∷ +0 ∷ +0 ∷ [] 
 
 -- where there is no factor: every number 0 and no limit
 abbrev pub blank_factor : WheelOdomFactor
-blank_factor = record { from_idx = 0; to_idx = 0; measurement = blank; t_cb_from = no_extrinsic; t_cb_to = no_extrinsic; huber_chi2 = Absent }
+blank_factor = record { from_idx = 0; to_idx = 0; measurement = blank; t_cb_from = no_extrinsic; t_cb_to = no_extrinsic; huber_chi2 = None }
 
 -- from the first's start to the second's end
 abbrev pub joined_factor : WheelOdomFactor → WheelOdomFactor → WheelOdomMeasurement → WheelOdomFactor

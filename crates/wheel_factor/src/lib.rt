@@ -7,7 +7,6 @@ ghost use Rattle.wheel_factor.specs.Factor.{blank_factor, compose_factor_of, fac
 ghost use Rattle.wheel_odom.specs.Information.{said_information};
 ghost use Rattle.wheel_odom.specs.Measurement.{said_outcome};
 
-use robust::Huber;
 use wheel_odom::{Information, Outcome, WheelOdomMeasurement};
 
 // Base-to-camera transform: X_cam = rotation · X_base + translation.
@@ -25,7 +24,7 @@ pub struct WheelOdomFactor {
     pub t_cb_from: Extrinsic,
     pub t_cb_to: Extrinsic,
     // Threshold on the six-dimensional chi².
-    pub huber_chi2: Huber,
+    pub huber_chi2: Option<f64>,
 }
 
 #[derive(Clone, Copy)]
@@ -56,7 +55,7 @@ impl WheelOdomFactor {
         measurement: WheelOdomMeasurement::BLANK,
         t_cb_from: Extrinsic::BLANK,
         t_cb_to: Extrinsic::BLANK,
-        huber_chi2: Huber::Absent,
+        huber_chi2: None,
     };
 
     pub fn new(
@@ -65,7 +64,7 @@ impl WheelOdomFactor {
         measurement: WheelOdomMeasurement,
         t_cb_from: Extrinsic,
         t_cb_to: Extrinsic,
-        huber_chi2: Huber,
+        huber_chi2: Option<f64>,
     ) -> WheelOdomFactor
         ensures { result ≡ factor_of from_idx to_idx measurement t_cb_from t_cb_to huber_chi2 }
     {
@@ -83,14 +82,13 @@ impl WheelOdomFactor {
     pub fn is_valid(self) -> bool
         ensures { result ≡ valid_factor self }
     {
-        let huber = self.huber_chi2;
         let from = self.t_cb_from;
         let to = self.t_cb_to;
         let measurement = self.measurement;
         let informed = measurement.information();
         let outcome = informed.outcome;
         (self.from_idx != self.to_idx)
-            & huber.is_valid()
+            & robust::is_valid(self.huber_chi2)
             & from.is_finite()
             & to.is_finite()
             & is_given(outcome)
@@ -111,9 +109,7 @@ impl WheelOdomFactor {
             return refused(outcome);
         }
         let measurement = composed.measurement;
-        let first = self.huber_chi2;
-        let second = next.huber_chi2;
-        let huber_chi2 = first.joined(second);
+        let huber_chi2 = robust::joined(self.huber_chi2, next.huber_chi2);
         let t_cb_to = next.t_cb_to;
         ComposedFactor {
             outcome: Outcome::Accepted,
