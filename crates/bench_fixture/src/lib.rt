@@ -71,7 +71,7 @@ pub extern "C" fn bench_replay(log: &[u8]) -> usize
 pub extern "C" fn bench_order(samples: &[f64], t0: f64, t1: f64, order: &mut [usize])
     ensures { order.new ≡ buffer_after samples.now t0 t1 order.old }
 {
-    window_order::ordered_window(samples, t0, t1, order);
+    let _ = window_order::ordered_window(samples, t0, t1, order);
 }
 
 // The first entry of the information of a measurement with the default sigmas, its covariance exactly symmetric.

@@ -3,6 +3,10 @@
 
 pub mod samples;
 
+ghost use Rattle.inertial.specs.Samples.{row_of};
+
+use number::Numbered;
+
 // One reading: its time in seconds, angular velocity in rad/s and acceleration in m/s², both in the body frame.
 #[derive(Clone, Copy)]
 pub struct ImuMeasurement {
@@ -35,10 +39,20 @@ pub struct ImuCalib {
     pub accel_bias_noise: f64,
 }
 
-// How many samples the numbers hold, each case named as in 01's table of refusals.
-#[derive(Clone, Copy)]
-pub enum Counted {
-    Count(usize),
+// Why numbers are not taken as samples, each case named as in 01's table of refusals.
+#[derive(Clone, Copy, Debug, PartialEq, Eq)]
+pub enum Refusal {
     BadLength,
     TooMany,
+}
+
+impl Numbered for Refusal {
+    ghost row_of = { row_of };
+
+    fn number(self) -> u64 {
+        match self {
+            Refusal::BadLength => 12,
+            Refusal::TooMany => 13,
+        }
+    }
 }
