@@ -8,15 +8,7 @@ ghost use Rattle.inverse3.specs.Inverse.{adjugate as adjugate_of, determinant as
 pub fn determinant(m: [f64; 9]) -> f64
     ensures { result ≡ determinant_of m }
 {
-    let m00 = m[0];
-    let m10 = m[1];
-    let m20 = m[2];
-    let m01 = m[3];
-    let m11 = m[4];
-    let m21 = m[5];
-    let m02 = m[6];
-    let m12 = m[7];
-    let m22 = m[8];
+    let [m00, m10, m20, m01, m11, m21, m02, m12, m22] = m;
     m00 * (m11 * m22 - m12 * m21) - m01 * (m10 * m22 - m12 * m20) + m02 * (m10 * m21 - m11 * m20)
 }
 
@@ -24,15 +16,7 @@ pub fn determinant(m: [f64; 9]) -> f64
 fn adjugate(m: [f64; 9]) -> [f64; 9]
     ensures { result ≡ adjugate_of m }
 {
-    let m00 = m[0];
-    let m10 = m[1];
-    let m20 = m[2];
-    let m01 = m[3];
-    let m11 = m[4];
-    let m21 = m[5];
-    let m02 = m[6];
-    let m12 = m[7];
-    let m22 = m[8];
+    let [m00, m10, m20, m01, m11, m21, m02, m12, m22] = m;
     [
         m11 * m22 - m12 * m21,
         m12 * m20 - m10 * m22,
@@ -50,6 +34,5 @@ fn adjugate(m: [f64; 9]) -> [f64; 9]
 pub fn inverse(m: [f64; 9]) -> [f64; 9]
     ensures { result ≡ inverse_of m }
 {
-    let d = 1.0 / determinant(m);
-    mat3::scaled(adjugate(m), d)
+    mat3::scaled(adjugate(m), 1.0 / determinant(m))
 }

@@ -8,6 +8,7 @@ ghost use Rattle.planar_information.specs.Block.{invertible, near_symmetric, nea
 use planar::PlanarMotion;
 
 // A positive determinant alone would pass diag(−1, −1, 1), and Sylvester's test needs symmetry.
+#[tactic(auto, unfolding(crate::specs::Block::invertible))]
 pub fn is_invertible(c: [f64; 9]) -> bool
     ensures { result ≡ invertible c }
 {
@@ -16,19 +17,19 @@ pub fn is_invertible(c: [f64; 9]) -> bool
 
 // The covariance is over the delta, whose translation is in base-i axes; the residual carries the translation error in base-j axes. So the block is
 // the covariance's inverse turned by the heading.
+#[tactic(auto, unfolding(crate::specs::Block::planar_block))]
 pub fn planar_block(motion: PlanarMotion) -> [f64; 9]
     ensures { result ≡ planar_block motion }
 {
-    let delta = motion.delta;
-    let covariance = motion.covariance;
-    let y = planar::formula::turn_matrix(delta[2]);
+    let y = planar::formula::turn_matrix(motion.delta[2]);
     mat3::product(
-        mat3::product(mat3::transpose(y), inverse3::inverse(covariance)),
+        mat3::product(mat3::transpose(y), inverse3::inverse(motion.covariance)),
         y,
     )
 }
 
 // |cij − cji| is not above 1e-9·√|cii·cjj|. No tolerance is below 0, so an exact symmetry, as composing leaves it, needs no root.
+#[tactic(auto, using(crate::proofs::Symmetry::exactly_symmetric), unfolding(crate::specs::Block::near_symmetric))]
 fn is_near_symmetric(cii: f64, cij: f64, cji: f64, cjj: f64) -> bool
     ensures { result ≡ near_symmetric cii cij cji cjj }
 {
@@ -40,6 +41,7 @@ fn is_near_symmetric(cii: f64, cij: f64, cji: f64, cjj: f64) -> bool
     !(tolerance < apart)
 }
 
+#[tactic(auto, unfolding(crate::specs::Block::near_symmetry))]
 fn has_near_symmetry(c: [f64; 9]) -> bool
     ensures { result ≡ near_symmetry c }
 {
