@@ -3,6 +3,7 @@
 #![tactic(auto)]
 
 ghost use Rattle.std.specs.Prelude.{◌≡◌, ◌≤◌, length, take};
+ghost use Rattle.std.specs.Iterator.{at_most};
 ghost use Rattle.io.specs.Counts.{IsPrefixLen};
 
 use inertial::ImuCalib;
@@ -17,15 +18,36 @@ pub fn read_full(input: &mut impl Read, out: &mut [u8]) -> usize
 {
     let mut done = 0;
     while done < out.len() {
-        let Ok(more) = input.read(&mut out[done..]) else {
-            return done;
-        };
-        if more == 0 {
-            return done;
+        match input.read(&mut out[done..]) {
+            Ok(0) | Err(_) => return done,
+            Ok(more) => done += more,
         }
-        done += more;
     }
     done
+}
+
+// The kinds of the records, one after the other.
+#[derive(Drop)]
+pub struct Records<'a, R> {
+    rt: &'a R,
+    // A proved loop has to end, and nothing says that the input does. So there is a number of records that no run uses up.
+    left: u64,
+}
+
+pub fn kinds<R: Input>(rt: &R) -> Records<'_, R> {
+    Records { rt, left: u64::MAX }
+}
+
+impl<'a, R: Input> Iterator for Records<'a, R> {
+    type Item = u64;
+
+    ghost remaining = { λ s. at_most s.left };
+
+    fn next(&mut self) -> Option<u64> {
+        self.left = self.left.checked_sub(1)?;
+        let kind = read_word(self.rt);
+        if kind == 0 { None } else { Some(kind) }
+    }
 }
 
 pub fn read_word(rt: &impl Input) -> u64 {
@@ -44,11 +66,14 @@ pub fn read_f64(rt: &impl Input) -> f64 {
 }
 
 pub fn read_numbers(rt: &impl Input, out: &mut [f64]) {
-    let mut i = 0;
-    while i < out.len() {
-        out[i] = read_f64(rt);
-        i += 1;
+    for x in out {
+        *x = read_f64(rt);
     }
+}
+
+// A matrix stands column by column.
+pub fn read_array<const N: usize>(rt: &impl Input) -> [f64; N] {
+    std::array::from_fn(|_| read_f64(rt))
 }
 
 pub fn read_three(rt: &impl Input) -> [f64; 3] {
@@ -65,15 +90,11 @@ pub fn read_nine(rt: &impl Input) -> [f64; 9] {
 }
 
 pub fn read_calib(rt: &impl Input) -> ImuCalib {
-    let gyro_noise = read_f64(rt);
-    let accel_noise = read_f64(rt);
-    let gyro_bias_noise = read_f64(rt);
-    let accel_bias_noise = read_f64(rt);
     ImuCalib {
-        gyro_noise,
-        accel_noise,
-        gyro_bias_noise,
-        accel_bias_noise,
+        gyro_noise: read_f64(rt),
+        accel_noise: read_f64(rt),
+        gyro_bias_noise: read_f64(rt),
+        accel_bias_noise: read_f64(rt),
     }
 }
 

@@ -15,13 +15,8 @@ use root::Root;
 use sincos::Turned;
 use std::io;
 
-// A proved loop has to end, and nothing says that the input does. So the loop has a number of turns that no run uses up.
 fn main(rt: HostRuntime) -> io::Result<()> {
-    for _ in 0..u64::MAX {
-        let kind = cases::read_word(&rt);
-        if kind == 0 {
-            return Ok(());
-        }
+    for kind in cases::kinds(&rt) {
         cases::print_word(&rt, kind)?;
         ask(&rt, kind)?;
         cases::end_line(&rt)?;
