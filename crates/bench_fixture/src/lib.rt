@@ -51,10 +51,8 @@ pub extern "C" fn bench_wheel_run(events: &[u8]) -> f64
         counter_width: 64,
     };
     let made = WheelPreintegration::new(drive, WheelNoise::DEFAULT);
-    let fresh = made.state;
-    let ran = runs::run(fresh, events);
-    let state = ran.state;
-    state.dt()
+    let fresh = made.unwrap_or(WheelPreintegration::BLANK);
+    runs::run(fresh, events).state.dt()
 }
 
 // How many bytes the replay of a log prints.

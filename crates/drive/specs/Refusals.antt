@@ -1,17 +1,11 @@
 -- 01, Refusal numbers: the number and the values of every case of an answer; 16 is 02's, W-201.
-use Rattle.std.specs.Prelude.{[], ◌∷◌}
-use Rattle.number.specs.Said.{Said, gives, Row, row, row_with, refused_by}
+use Rattle.std.specs.Prelude.{[], ◌∷◌, Result}
+use Rattle.number.specs.Said.{Said, Row, row, row_with, refused_by, said_result}
 use Rattle.drive.specs.declared.Refusal.{Refusal}
 use Rattle.drive.specs.declared.Refusal.TheVariants as R
 use Rattle.drive.specs.declared.BodyTwist.{BodyTwist}
 use Rattle.drive.specs.declared.TwistColumns.{TwistColumns}
 use Rattle.drive.specs.declared.WheelRates.{WheelRates}
-use Rattle.drive.specs.declared.Twisted.{Twisted}
-use Rattle.drive.specs.declared.Twisted.TheVariants as T
-use Rattle.drive.specs.declared.Jacobian.{Jacobian}
-use Rattle.drive.specs.declared.Jacobian.TheVariants as J
-use Rattle.drive.specs.declared.Rated.{Rated}
-use Rattle.drive.specs.declared.Rated.TheVariants as W
 
 abbrev pub row_of : Refusal → Row
 row_of R.Invalid = row 1
@@ -27,14 +21,11 @@ row_of R.TickRange = row 16
 abbrev pub said_refusal : {A : Type 0} → Refusal → Said A
 said_refusal r = refused_by (row_of r)
 
-abbrev pub said_twisted : Twisted → Said BodyTwist
-said_twisted (T.Twist v) = gives v
-said_twisted (T.Refused r) = said_refusal r
+abbrev pub said_twisted : Result BodyTwist Refusal → Said BodyTwist
+said_twisted r = said_result row_of r
 
-abbrev pub said_jacobian : Jacobian → Said TwistColumns
-said_jacobian (J.Columns v) = gives v
-said_jacobian (J.Refused r) = said_refusal r
+abbrev pub said_jacobian : Result TwistColumns Refusal → Said TwistColumns
+said_jacobian r = said_result row_of r
 
-abbrev pub said_rated : Rated → Said WheelRates
-said_rated (W.Rates v) = gives v
-said_rated (W.Refused r) = said_refusal r
+abbrev pub said_rated : Result WheelRates Refusal → Said WheelRates
+said_rated r = said_result row_of r

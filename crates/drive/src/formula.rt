@@ -7,6 +7,7 @@ use crate::{BodyTwist, DifferentialDrive, Reading, TwistColumns, WheelRates};
 use number::TAU;
 
 // The base's twist from the wheels' angular velocities.
+#[tactic(auto, unfolding(crate::specs::Drive::twist_of))]
 pub fn twist_of(drive: DifferentialDrive, w: WheelRates) -> BodyTwist
     ensures { result ≡ twist_of drive w }
 {
@@ -20,6 +21,7 @@ pub fn twist_of(drive: DifferentialDrive, w: WheelRates) -> BodyTwist
 }
 
 // How the twist moves with each rate: the same at all rates.
+#[tactic(auto, unfolding(crate::specs::Drive::columns_of))]
 pub fn columns(drive: DifferentialDrive) -> TwistColumns
     ensures { result ≡ columns_of drive }
 {
@@ -38,18 +40,21 @@ pub fn columns(drive: DifferentialDrive) -> TwistColumns
 }
 
 // How far a wheel turns from one encoder count to the next.
+#[tactic(auto, unfolding(crate::specs::Drive::radians_per_tick))]
 pub fn radians_per_tick(drive: DifferentialDrive) -> f64
     ensures { result ≡ radians_per_tick drive }
 {
     TAU / drive.ticks_per_revolution
 }
 
+#[tactic(auto, unfolding(crate::specs::Drive::rate_from_ticks))]
 fn rate_from_ticks(per_tick: f64, difference: i64, dt: f64) -> f64
     ensures { result ≡ rate_from_ticks per_tick difference dt }
 {
     number::whole_to_f64(difference) * per_tick / dt
 }
 
+#[tactic(auto, unfolding(crate::specs::Drive::rates_from_ticks))]
 pub(crate) fn rates_from_ticks(per_tick: f64, left: i64, right: i64, dt: f64) -> WheelRates
     ensures { result ≡ rates_from_ticks per_tick left right dt }
 {
@@ -69,29 +74,22 @@ pub fn rates_between(
 ) -> WheelRates
     ensures { result ≡ rates_between drive per_tick from to dt }
 {
-    match from {
-        Reading::Ticks(left, right) => match to {
-            Reading::Ticks(l, r) => {
-                let dl = number::tick_difference(drive.counter_width, left, l);
-                let dr = number::tick_difference(drive.counter_width, right, r);
-                rates_from_ticks(per_tick, dl, dr, dt)
-            }
-            Reading::AngularVelocity(_, _) => WheelRates {
-                left: 0.0,
-                right: 0.0,
-            },
-        },
-        Reading::AngularVelocity(left, right) => match to {
-            Reading::Ticks(_, _) => WheelRates {
-                left: 0.0,
-                right: 0.0,
-            },
-            Reading::AngularVelocity(l, r) => mean_rates(left, right, l, r),
+    match (from, to) {
+        (Reading::Ticks(left, right), Reading::Ticks(l, r)) => {
+            let dl = number::tick_difference(drive.counter_width, left, l);
+            let dr = number::tick_difference(drive.counter_width, right, r);
+            rates_from_ticks(per_tick, dl, dr, dt)
+        }
+        (Reading::AngularVelocity(left, right), Reading::AngularVelocity(l, r)) => mean_rates(left, right, l, r),
+        _ => WheelRates {
+            left: 0.0,
+            right: 0.0,
         },
     }
 }
 
 // The mean of two readings, left and right.
+#[tactic(auto, unfolding(crate::specs::Drive::mean_rates))]
 fn mean_rates(left: f64, right: f64, l: f64, r: f64) -> WheelRates
     ensures { result ≡ mean_rates left right l r }
 {

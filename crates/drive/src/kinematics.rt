@@ -3,9 +3,10 @@ ghost use Rattle.std.specs.Prelude.{◌≡◌};
 ghost use Rattle.drive.specs.Drive.{finite_twist, is_width, valid_drive, jacobian_asked, rates_asked, twist_asked};
 ghost use Rattle.drive.specs.Refusals.{said_jacobian, said_rated, said_twisted};
 
-use crate::{BodyTwist, DifferentialDrive, Jacobian, Rated, Refusal, Twisted, WheelRates, formula};
+use crate::{BodyTwist, DifferentialDrive, Refusal, TwistColumns, WheelRates, formula};
 
 impl BodyTwist {
+    #[tactic(auto, unfolding(crate::specs::Drive::finite_twist))]
     pub fn is_finite(self) -> bool
         ensures { result ≡ finite_twist self }
     {
@@ -24,6 +25,7 @@ impl DifferentialDrive {
     };
 
     // Each length and the counts per turn are finite and above 0, and there are counters of that width.
+    #[tactic(auto, unfolding(crate::specs::Drive::valid_drive))]
     pub fn is_valid(self) -> bool
         ensures { result ≡ valid_drive self }
     {
@@ -35,60 +37,61 @@ impl DifferentialDrive {
     }
 
     // The base's twist from the wheels' angular velocities.
-    pub fn twist(self, left: f64, right: f64) -> Twisted
+    #[tactic(auto, unfolding(crate::specs::Drive::twist_asked))]
+    pub fn twist(self, left: f64, right: f64) -> Result<BodyTwist, Refusal>
         ensures { said_twisted result ≡ twist_asked self left right }
     {
         if !self.is_valid() {
-            return Twisted::Refused(Refusal::InvalidKinematics);
+            return Err(Refusal::InvalidKinematics);
         }
         if !(number::is_finite(left) & number::is_finite(right)) {
-            return Twisted::Refused(Refusal::NonFinite);
+            return Err(Refusal::NonFinite);
         }
         let v = formula::twist_of(self, WheelRates { left, right });
         if !v.is_finite() {
-            return Twisted::Refused(Refusal::NonFinite);
+            return Err(Refusal::NonFinite);
         }
-        Twisted::Twist(v)
+        Ok(v)
     }
 
     // How the twist moves with each rate: the same at all rates.
-    pub fn twist_jacobian(self) -> Jacobian
+    #[tactic(auto, unfolding(crate::specs::Drive::jacobian_asked))]
+    pub fn twist_jacobian(self) -> Result<TwistColumns, Refusal>
         ensures { said_jacobian result ≡ jacobian_asked self }
     {
         if !self.is_valid() {
-            return Jacobian::Refused(Refusal::InvalidKinematics);
+            return Err(Refusal::InvalidKinematics);
         }
         let c = formula::columns(self);
-        let left = c.left;
-        let right = c.right;
-        if !(left.is_finite() & right.is_finite()) {
-            return Jacobian::Refused(Refusal::NonFinite);
+        if !(c.left.is_finite() & c.right.is_finite()) {
+            return Err(Refusal::NonFinite);
         }
-        Jacobian::Columns(c)
+        Ok(c)
     }
 
     // Mean wheel rates from a change of so many encoder counts over dt seconds.
-    pub fn wheel_rates_from_ticks(self, left: i64, right: i64, dt: f64) -> Rated
+    #[tactic(auto, unfolding(crate::specs::Drive::rates_asked))]
+    pub fn wheel_rates_from_ticks(self, left: i64, right: i64, dt: f64) -> Result<WheelRates, Refusal>
         ensures { said_rated result ≡ rates_asked self left right dt }
     {
         if !self.is_valid() {
-            return Rated::Refused(Refusal::InvalidKinematics);
+            return Err(Refusal::InvalidKinematics);
         }
         if !number::is_finite(dt) {
-            return Rated::Refused(Refusal::NonFinite);
+            return Err(Refusal::NonFinite);
         }
         if dt < 0.0 {
-            return Rated::Refused(Refusal::OutOfOrder(dt, 0.0));
+            return Err(Refusal::OutOfOrder(dt, 0.0));
         }
         if dt == 0.0 {
-            return Rated::Refused(Refusal::Duplicate(dt));
+            return Err(Refusal::Duplicate(dt));
         }
         let per_tick = formula::radians_per_tick(self);
         let w = formula::rates_from_ticks(per_tick, left, right, dt);
         if !(number::is_finite(w.left) & number::is_finite(w.right)) {
-            return Rated::Refused(Refusal::NonFinite);
+            return Err(Refusal::NonFinite);
         }
-        Rated::Rates(w)
+        Ok(w)
     }
 }
 

@@ -46,24 +46,6 @@ pub struct TwistColumns {
     pub right: BodyTwist,
 }
 
-#[derive(Clone, Copy)]
-pub enum Twisted {
-    Twist(BodyTwist),
-    Refused(Refusal),
-}
-
-#[derive(Clone, Copy)]
-pub enum Jacobian {
-    Columns(TwistColumns),
-    Refused(Refusal),
-}
-
-#[derive(Clone, Copy)]
-pub enum Rated {
-    Rates(WheelRates),
-    Refused(Refusal),
-}
-
 // The wheels' radii and the distance between their contact points in metres, encoder counts per wheel turn, and the bits of the encoders' counters:
 // below 64 they start again at 0 where they are full. Each wheel has its own radius, since tyres wear unevenly.
 #[derive(Clone, Copy)]
@@ -83,7 +65,8 @@ pub struct WheelNoise {
     pub lateral_velocity: f64,
 }
 
-#[derive(Clone, Copy)]
+// Why a reading, a drive or a noise is refused. The number and the values of each case are in specs/Refusals.antt.
+#[derive(Clone, Copy, Debug, PartialEq)]
 pub enum Refusal {
     // The reading is flagged invalid.
     Invalid,

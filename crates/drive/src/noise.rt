@@ -18,6 +18,7 @@ impl WheelNoise {
     };
 
     // Each density is finite and not below 0.
+    #[tactic(auto, unfolding(crate::specs::Noise::valid_noise))]
     pub fn is_valid(self) -> bool
         ensures { result ≡ valid_noise self }
     {

@@ -14,9 +14,7 @@ impl Reading {
                 & number::is_finite(right),
         }
     }
-}
 
-impl Reading {
     // Whether counters of so many bits can show it. Rates are of no counter.
     pub fn is_in_range(self, width: u64) -> bool
         ensures { result ≡ in_range width self }
@@ -32,16 +30,11 @@ impl Reading {
     pub fn is_same_kind(self, other: Reading) -> bool
         ensures { result ≡ same_kind self other }
     {
-        match self {
-            Reading::Ticks(_, _) => match other {
-                Reading::Ticks(_, _) => true,
-                Reading::AngularVelocity(_, _) => false,
-            },
-            Reading::AngularVelocity(_, _) => match other {
-                Reading::Ticks(_, _) => false,
-                Reading::AngularVelocity(_, _) => true,
-            },
-        }
+        matches!(
+            (self, other),
+            (Reading::Ticks(_, _), Reading::Ticks(_, _))
+                | (Reading::AngularVelocity(_, _), Reading::AngularVelocity(_, _))
+        )
     }
 }
 
@@ -69,10 +62,10 @@ impl WheelMeasurement {
     }
 
     // The time and, where it reads rates, the rates are finite.
+    #[tactic(auto, unfolding(crate::specs::Readings::finite_measurement))]
     pub fn is_finite(self) -> bool
         ensures { result ≡ finite_measurement self }
     {
-        let reading = self.reading;
-        number::is_finite(self.timestamp) & reading.is_finite()
+        number::is_finite(self.timestamp) & self.reading.is_finite()
     }
 }

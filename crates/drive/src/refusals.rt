@@ -1,15 +1,13 @@
-// Why a reading, a drive or a noise is refused. The number and the values of each case are in specs/Refusals.antt.
-ghost use Rattle.std.specs.Prelude.{◌≡◌, ◌<◌};
+// The number of what is refused.
 ghost use Rattle.drive.specs.Refusals.{row_of};
 
 use crate::Refusal;
+use number::Numbered;
 
-impl Refusal {
-    // 01's number. It has at most two digits: what prints it goes by that.
-    pub fn number(self) -> u64
-        ensures value { result ≡ (row_of self).number }
-        ensures upper_bound { result < 100 }
-    {
+impl Numbered for Refusal {
+    ghost row_of = { row_of };
+
+    fn number(self) -> u64 {
         match self {
             Refusal::Invalid => 1,
             Refusal::NonFinite => 2,

@@ -16,10 +16,9 @@ pub extern "C" fn kept_values(parameters: &[u8], events: &[u8], out: &mut [f64])
 {
     let drive = records::drive_of(parameters);
     let made = WheelPreintegration::new(drive, records::noise_of(parameters));
-    let state = made.state;
+    let state = made.unwrap_or(WheelPreintegration::BLANK);
     let ran = runs::run(state, events);
-    let end = ran.state;
-    store(end.kept, out);
+    store(ran.state.kept, out);
 }
 
 fn store(kept: KeptValues, out: &mut [f64])

@@ -1,14 +1,10 @@
--- What an outcome says in 01's numbers and values determines it. Assumes nothing.
-use mathlib.Core.Path.{◌≡◌, refl, ap}
-use Rattle.number.proofs.Cases.{determined}
-use Rattle.drive.proofs.Cases.{read, refusal_back}
-use Rattle.step_order.specs.declared.Outcome.{Outcome}
-use Rattle.step_order.specs.declared.Outcome.TheVariants as O
-use Rattle.step_order.specs.Order.{said_outcome}
+-- What is said in 01's numbers and values of whether a reading fits determines the answer. Assumes nothing.
+use Rattle.std.proofs.Common.{◌≡◌, Result}
+use Rattle.number.proofs.Cases.{said_result_determined}
+use Rattle.drive.proofs.Cases.{row_determined}
+use Rattle.drive.specs.Refusals.{row_of}
+use Rattle.drive.specs.declared.Refusal.{Refusal}
+use Rattle.step_order.specs.Order.{said_fit}
 
-outcome_back : (o : Outcome) → read (λ (u : Unit {0}). O.Accepted) O.Refused (said_outcome o) ≡ o
-outcome_back O.Accepted = refl
-outcome_back (O.Refused r) = ap O.Refused (refusal_back r)
-
-pub outcome_determined : (a b : Outcome) → said_outcome a ≡ said_outcome b → a ≡ b
-outcome_determined = determined said_outcome (read (λ (u : Unit {0}). O.Accepted) O.Refused) outcome_back
+pub outcome_determined : (a b : Result (Unit {0}) Refusal) → said_fit a ≡ said_fit b → a ≡ b
+outcome_determined = said_result_determined row_of row_determined

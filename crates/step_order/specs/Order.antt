@@ -1,9 +1,9 @@
 -- 01, The wheel step: the order in which a reading is refused, from its first line to its last, with 02's refusals at their places. It stands in three parts, since
 -- after the first a reading with none before it is the baseline, and after the second the motion is composed.
-use Rattle.std.specs.Prelude.{not, ◌||◌, [], ◌∷◌, Float}
+use Rattle.std.specs.Prelude.{not, ◌||◌, [], ◌∷◌, Float, Result}
 use Rattle.number.specs.Float.{◌<ᶠ◌, ◌=ᶠ◌, ◌when◌else◌, finite}
 use Rattle.number.specs.Constants.{zero as +0}
-use Rattle.number.specs.Said.{Said, gives, refused, refusal}
+use Rattle.number.specs.Said.{Said, gives, refused, refusal, said_result}
 use Rattle.sincos.specs.Turn.{above_four}
 use Rattle.drive.specs.declared.DifferentialDrive.{DifferentialDrive}
 use Rattle.drive.specs.declared.WheelNoise.{WheelNoise}
@@ -11,17 +11,15 @@ use Rattle.drive.specs.declared.WheelMeasurement.{WheelMeasurement}
 use Rattle.drive.specs.Drive.{valid_drive}
 use Rattle.drive.specs.Noise.{valid_noise}
 use Rattle.drive.specs.Readings.{finite_measurement, in_range, same_kind}
-use Rattle.drive.specs.Refusals.{said_refusal}
+use Rattle.drive.specs.Refusals.{row_of}
+use Rattle.drive.specs.declared.Refusal.{Refusal}
 use Rattle.interval.specs.declared.Accumulated.{Accumulated}
 use Rattle.interval.specs.declared.Interval.{Interval}
 use Rattle.interval.specs.Accumulated.{finite_accumulated}
-use Rattle.step_order.specs.declared.Outcome.{Outcome}
-use Rattle.step_order.specs.declared.Outcome.TheVariants as O
 
 -- what an outcome says: a reading that is accepted gives nothing beside the state
-abbrev pub said_outcome : Outcome → Said (Unit {0})
-said_outcome O.Accepted = gives tt
-said_outcome (O.Refused r) = said_refusal r
+abbrev pub said_fit : Result (Unit {0}) Refusal → Said (Unit {0})
+said_fit r = said_result row_of r
 
 -- "Order: 1; 2 for time or rates; then .." and before that 01, Refusal numbers: "unfit noise or drive is refused 6, then 7, before 1". 02, W-201: "a tick out of range is
 -- 16, after 2 for the reading and also for a baseline."

@@ -2,65 +2,58 @@
 #![tactic(auto)]
 
 ghost use Rattle.std.specs.Prelude.{◌≡◌};
-ghost use Rattle.step_order.specs.Order.{interval_fits, reading_fits, said_outcome};
+ghost use Rattle.step_order.specs.Order.{interval_fits, reading_fits, said_fit};
 
 use drive::{DifferentialDrive, Refusal, WheelMeasurement, WheelNoise};
 use interval::Interval;
 
-#[derive(Clone, Copy)]
-pub enum Outcome {
-    Accepted,
-    Refused(Refusal),
-}
-
 // What of a reading is refused whatever came before it.
-pub fn reading_fits(drive: DifferentialDrive, noise: WheelNoise, m: WheelMeasurement) -> Outcome
-    ensures { said_outcome result ≡ reading_fits drive noise m }
+#[tactic(auto, unfolding(crate::specs::Order::reading_fits))]
+pub fn reading_fits(drive: DifferentialDrive, noise: WheelNoise, m: WheelMeasurement) -> Result<(), Refusal>
+    ensures { said_fit result ≡ reading_fits drive noise m }
 {
     if !noise.is_valid() {
-        return Outcome::Refused(Refusal::InvalidNoise);
+        return Err(Refusal::InvalidNoise);
     }
     if !drive.is_valid() {
-        return Outcome::Refused(Refusal::InvalidKinematics);
+        return Err(Refusal::InvalidKinematics);
     }
     if !m.valid {
-        return Outcome::Refused(Refusal::Invalid);
+        return Err(Refusal::Invalid);
     }
     if !m.is_finite() {
-        return Outcome::Refused(Refusal::NonFinite);
+        return Err(Refusal::NonFinite);
     }
-    let reading = m.reading;
-    if !reading.is_in_range(drive.counter_width) {
-        return Outcome::Refused(Refusal::TickRange);
+    if !m.reading.is_in_range(drive.counter_width) {
+        return Err(Refusal::TickRange);
     }
-    Outcome::Accepted
+    Ok(())
 }
 
 // What of the interval from the last reading is refused before anything is composed.
+#[tactic(auto, unfolding(crate::specs::Order::interval_fits))]
 pub fn interval_fits(
     heading: f64,
     last: WheelMeasurement,
     m: WheelMeasurement,
     i: Interval,
-) -> Outcome
-    ensures { said_outcome result ≡ interval_fits heading last m i }
+) -> Result<(), Refusal>
+    ensures { said_fit result ≡ interval_fits heading last m i }
 {
-    let from = last.reading;
-    let to = m.reading;
     if i.dt < 0.0 {
-        return Outcome::Refused(Refusal::OutOfOrder(m.timestamp, last.timestamp));
+        return Err(Refusal::OutOfOrder(m.timestamp, last.timestamp));
     }
     if i.dt == 0.0 {
-        return Outcome::Refused(Refusal::Duplicate(m.timestamp));
+        return Err(Refusal::Duplicate(m.timestamp));
     }
-    if !from.is_same_kind(to) {
-        return Outcome::Refused(Refusal::MixedReadings);
+    if !last.reading.is_same_kind(m.reading) {
+        return Err(Refusal::MixedReadings);
     }
     if sincos::is_above_four(i.angle) | sincos::is_above_four(heading) {
-        return Outcome::Refused(Refusal::AngleRange);
+        return Err(Refusal::AngleRange);
     }
     if !number::is_finite(i.angle) {
-        return Outcome::Refused(Refusal::NonFinite);
+        return Err(Refusal::NonFinite);
     }
-    Outcome::Accepted
+    Ok(())
 }

@@ -1,7 +1,7 @@
 // 01's table of examples, run: each answer of the code in bits or digits. That the definitions give the same is proved (proofs/Table.antt).
 #![tactic(auto)]
 
-use drive::{DifferentialDrive, Twisted};
+use drive::DifferentialDrive;
 use root::Root;
 use std::io;
 use wheel_odom::{Information, WheelOdomMeasurement};
@@ -52,13 +52,13 @@ fn print_twist(rt: &impl Print) -> io::Result<()> {
         counter_width: 64,
     };
     match drive.twist(1.0, 2.0) {
-        Twisted::Twist(v) => {
+        Ok(v) => {
             rt.print("vx ")?;
             print_f64(rt, v.vx)?;
             rt.print("wz ")?;
             print_f64(rt, v.wz)
         }
-        Twisted::Refused(_) => rt.println("refused"),
+        Err(_) => rt.println("refused"),
     }
 }
 

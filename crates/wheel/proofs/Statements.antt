@@ -17,8 +17,7 @@ use Rattle.drive.specs.Noise.{valid_noise}
 use Rattle.kept.specs.declared.KeptValues.{KeptValues}
 use Rattle.planar.specs.Motion.{heading}
 use Rattle.step_order.specs.Order.{interval_fits, reading_fits, result_fits}
-use Rattle.wheel.specs.declared.Last.{Last}
-use Rattle.wheel.specs.declared.Last.TheVariants.{Nothing, At}
+use Rattle.std.specs.Prelude.{Option, None, Some}
 use Rattle.wheel.specs.declared.WheelPreintegration.{WheelPreintegration}
 use Rattle.wheel.specs.Integrator.{settings, make_of, changed, change_of, moved, Kept}
 use Rattle.wheel.specs.Step.{interval_by, advanced_by, after, step_from, step_by, step_of, step_afresh, unless_refused}
@@ -54,10 +53,10 @@ abbrev KeptOf : WheelPreintegration → WheelPreintegration → Type 0
 KeptOf s v = (v.settings ≡ s.settings) × (v.kept ≡ s.kept)
 
 module _ (kept : KeptValues) (s : WheelPreintegration) (m : WheelMeasurement) where
-  after_answers : (last : Last) → Answers s (KeptOf s) (after kept last s m)
+  after_answers : (last : Option WheelMeasurement) → Answers s (KeptOf s) (after kept last s m)
   unfolding step_from
-  after_answers Nothing = next (moved s s.accumulated m) (refl, refl)
-  after_answers (At last) =
+  after_answers None = next (moved s s.accumulated m) (refl, refl)
+  after_answers (Some last) =
       let a = advanced_by kept s last m in
       unless (interval_fits (heading s.accumulated.motion) last m (interval_by kept s last m)) (unless (result_fits a) (next (moved s a m) (refl, refl)))
 

@@ -1,6 +1,6 @@
 -- 01, The wheel step: "A fresh integrator has no last reading, identity motion, an all-zero covariance and dt 0, every zero being +0." 02, W-206: the values that it
 -- keeps beside them, and the change of drive and noise.
-use Rattle.std.specs.Prelude.{not, ◌&&◌, ◌≡◌, eqb}
+use Rattle.std.specs.Prelude.{Option, None, Some, not, ◌&&◌, ◌≡◌, eqb}
 use Rattle.number.specs.Float.{◌when◌else◌}
 use Rattle.number.specs.Said.{Told, accepts, refuses}
 use Rattle.drive.specs.declared.DifferentialDrive.{DifferentialDrive}
@@ -12,8 +12,6 @@ use Rattle.kept.specs.declared.KeptValues.{KeptValues}
 use Rattle.kept.specs.Kept.{kept_of, blank_kept}
 use Rattle.interval.specs.declared.Accumulated.{Accumulated}
 use Rattle.interval.specs.Accumulated.{none}
-use Rattle.wheel.specs.declared.Last.{Last}
-use Rattle.wheel.specs.declared.Last.TheVariants.{Nothing, At}
 use Rattle.wheel.specs.declared.Settings.{Settings}
 use Rattle.wheel.specs.declared.WheelPreintegration.{WheelPreintegration}
 
@@ -25,15 +23,15 @@ abbrev pub afresh : Settings → KeptValues
 afresh c = kept_of c.drive c.noise
 
 -- with nothing accumulated
-abbrev pub begun : Settings → KeptValues → Last → WheelPreintegration
+abbrev pub begun : Settings → KeptValues → Option WheelMeasurement → WheelPreintegration
 begun c kept last = record { settings = c; kept = kept; accumulated = none; last = last }
 
 abbrev pub fresh : Settings → WheelPreintegration
-fresh c = begun c (afresh c) Nothing
+fresh c = begun c (afresh c) None
 
 -- "no state": every number +0 and no reading
 abbrev pub blank : WheelPreintegration
-blank = begun (settings blank_drive blank_noise) blank_kept Nothing
+blank = begun (settings blank_drive blank_noise) blank_kept None
 
 -- 01, Refusal numbers: "Making an integrator refuses 6 before 7 and then returns no state."
 unfoldable pub make_of : DifferentialDrive → WheelNoise → Told WheelPreintegration
@@ -59,7 +57,7 @@ change_of s d n =
 
 -- m is taken, and a is accumulated with it
 abbrev pub moved : WheelPreintegration → Accumulated → WheelMeasurement → WheelPreintegration
-moved s a m = record { settings = s.settings; kept = s.kept; accumulated = a; last = At m }
+moved s a m = record { settings = s.settings; kept = s.kept; accumulated = a; last = Some m }
 
 -- 02, W-206: "equal, bit for bit, to the values worked out afresh"
 abbrev pub Kept : WheelPreintegration → Type 0

@@ -1,5 +1,6 @@
 -- 01, The wheel step: what a reading that came through the order makes of the state. 02, W-206: it reads the kept values; the definition that works them out at
 -- each reading stands beside it.
+use Rattle.std.specs.Prelude.{Option, None, Some}
 use Rattle.number.specs.Said.{Said, gives, refused, Told, told, accepts}
 use Rattle.planar.specs.Motion.{heading}
 use Rattle.drive.specs.declared.WheelMeasurement.{WheelMeasurement}
@@ -9,8 +10,6 @@ use Rattle.interval.specs.declared.Interval.{Interval}
 use Rattle.interval.specs.Interval.{interval_of}
 use Rattle.interval.specs.Accumulated.{advanced}
 use Rattle.step_order.specs.Order.{reading_fits, interval_fits, result_fits}
-use Rattle.wheel.specs.declared.Last.{Last}
-use Rattle.wheel.specs.declared.Last.TheVariants.{Nothing, At}
 use Rattle.wheel.specs.declared.WheelPreintegration.{WheelPreintegration}
 use Rattle.wheel.specs.Integrator.{afresh, moved}
 
@@ -34,9 +33,9 @@ step_from kept s last m =
     accepts (moved s a m)))
 
 -- "with no earlier reading, it becomes the baseline and nothing else changes"
-abbrev pub after : KeptValues → Last → WheelPreintegration → WheelMeasurement → Told WheelPreintegration
-after kept Nothing s m = accepts (moved s s.accumulated m)
-after kept (At last) s m = step_from kept s last m
+abbrev pub after : KeptValues → Option WheelMeasurement → WheelPreintegration → WheelMeasurement → Told WheelPreintegration
+after kept None s m = accepts (moved s s.accumulated m)
+after kept (Some last) s m = step_from kept s last m
 
 -- the step with these values for the rate noise and the radians per tick
 abbrev pub step_by : KeptValues → WheelPreintegration → WheelMeasurement → Told WheelPreintegration

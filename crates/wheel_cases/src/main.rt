@@ -25,21 +25,17 @@
 // per tick. The Rust keeps none, so that otherwise none stand there, and those of a state that is handed in are worked out.
 #![tactic(auto)]
 
-use drive::{
-    BodyTwist, DifferentialDrive, Jacobian, Rated, Reading, Refusal, Twisted, WheelMeasurement,
-    WheelNoise,
-};
+use drive::{BodyTwist, DifferentialDrive, Reading, Refusal, WheelMeasurement, WheelNoise};
 use interval::Accumulated;
 use kept::KeptValues;
+use number::Numbered;
 use planar::PlanarMotion;
 use std::io;
-use step_order::Outcome;
-use wheel::{Last, Settings, WheelPreintegration};
+use wheel::{Settings, WheelPreintegration};
 
 // A proved loop has to end, and nothing says that the input does. So the loop has a number of turns that no run uses up.
 fn main(rt: HostRuntime) -> io::Result<()> {
-    let none = WheelPreintegration::new(DifferentialDrive::BLANK, WheelNoise::BLANK);
-    let mut state = none.state;
+    let mut state = WheelPreintegration::BLANK;
     for _ in 0..u64::MAX {
         let kind = cases::read_word(&rt);
         if kind == 0 {
@@ -84,9 +80,8 @@ fn print_after(rt: &(impl Input + Print), kind: u64, state: WheelPreintegration)
 fn begun(rt: &(impl Input + Print), call: u64) -> io::Result<WheelPreintegration> {
     let drive = read_drive(rt);
     let made = WheelPreintegration::new(drive, read_noise(rt, call));
-    let outcome = made.outcome;
-    print_outcome(rt, outcome)?;
-    Ok(made.state)
+    print_outcome(rt, made.map(|_| ()))?;
+    Ok(made.unwrap_or(WheelPreintegration::BLANK))
 }
 
 fn stepped(
@@ -94,18 +89,19 @@ fn stepped(
     call: u64,
     before: WheelPreintegration,
 ) -> io::Result<WheelPreintegration> {
-    let answer = before.integrate(read_measurement(rt, call));
-    let outcome = answer.outcome;
-    print_outcome(rt, outcome)?;
-    Ok(answer.state)
+    let mut state = before;
+    print_outcome(rt, state.integrate(read_measurement(rt, call)))?;
+    Ok(state)
 }
 
 fn restarted(
     rt: &(impl Input + Print),
     before: WheelPreintegration,
 ) -> io::Result<WheelPreintegration> {
+    let mut state = before;
+    state.restart();
     cases::print_word(rt, 0)?;
-    Ok(before.restart())
+    Ok(state)
 }
 
 fn changed(
@@ -113,10 +109,9 @@ fn changed(
     before: WheelPreintegration,
 ) -> io::Result<WheelPreintegration> {
     let drive = read_drive(rt);
-    let answer = before.change(drive, read_noise(rt, 2));
-    let outcome = answer.outcome;
-    print_outcome(rt, outcome)?;
-    Ok(answer.state)
+    let mut state = before;
+    print_outcome(rt, state.change(drive, read_noise(rt, 2)))?;
+    Ok(state)
 }
 
 fn ran(rt: &(impl Input + Print), before: WheelPreintegration) -> io::Result<WheelPreintegration> {
@@ -148,13 +143,13 @@ fn ask_twist(rt: &(impl Input + Print), kind: u64, drive: DifferentialDrive) -> 
     let left = cases::read_f64(rt);
     let right = cases::read_f64(rt);
     match drive.twist(left, right) {
-        Twisted::Twist(v) => {
+        Ok(v) => {
             cases::print_word(rt, 0)?;
             cases::print_near(rt, kind, &[v.vx])?;
             cases::print_numbers(rt, &[v.vy])?;
             cases::print_near(rt, kind, &[v.wz])
         }
-        Twisted::Refused(why) => print_refusal(rt, why),
+        Err(why) => print_refusal(rt, why),
     }
 }
 
@@ -162,24 +157,22 @@ fn ask_rates(rt: &(impl Input + Print), drive: DifferentialDrive) -> io::Result<
     let left = read_tick(rt);
     let right = read_tick(rt);
     match drive.wheel_rates_from_ticks(left, right, cases::read_f64(rt)) {
-        Rated::Rates(w) => {
+        Ok(w) => {
             cases::print_word(rt, 0)?;
             cases::print_numbers(rt, &[w.left, w.right])
         }
-        Rated::Refused(why) => print_refusal(rt, why),
+        Err(why) => print_refusal(rt, why),
     }
 }
 
 fn ask_jacobian(rt: &(impl Input + Print), drive: DifferentialDrive) -> io::Result<()> {
     match drive.twist_jacobian() {
-        Jacobian::Columns(c) => {
-            let left = c.left;
-            let right = c.right;
+        Ok(c) => {
             cases::print_word(rt, 0)?;
-            print_twist(rt, left)?;
-            print_twist(rt, right)
+            print_twist(rt, c.left)?;
+            print_twist(rt, c.right)
         }
-        Jacobian::Refused(why) => print_refusal(rt, why),
+        Err(why) => print_refusal(rt, why),
     }
 }
 
@@ -266,11 +259,11 @@ fn read_kept(
     }
 }
 
-fn read_last(rt: &impl Input, call: u64) -> Last {
+fn read_last(rt: &impl Input, call: u64) -> Option<WheelMeasurement> {
     if call == 0 {
-        return Last::Nothing;
+        return None;
     }
-    Last::At(read_measurement(rt, call))
+    Some(read_measurement(rt, call))
 }
 
 fn read_measurement(rt: &impl Input, call: u64) -> WheelMeasurement {
@@ -299,10 +292,10 @@ fn read_tick(rt: &impl Input) -> i64 {
 
 // ---- what a line holds
 
-fn print_outcome(rt: &impl Print, outcome: Outcome) -> io::Result<()> {
+fn print_outcome(rt: &impl Print, outcome: Result<(), Refusal>) -> io::Result<()> {
     match outcome {
-        Outcome::Accepted => cases::print_word(rt, 0),
-        Outcome::Refused(why) => print_refusal(rt, why),
+        Ok(()) => cases::print_word(rt, 0),
+        Err(why) => print_refusal(rt, why),
     }
 }
 
@@ -359,10 +352,10 @@ fn print_motion(rt: &(impl Input + Print), kind: u64, motion: PlanarMotion) -> i
     cases::print_near(rt, kind, &covariance)
 }
 
-fn print_last(rt: &impl Print, last: Last) -> io::Result<()> {
+fn print_last(rt: &impl Print, last: Option<WheelMeasurement>) -> io::Result<()> {
     match last {
-        Last::Nothing => cases::print_word(rt, 0),
-        Last::At(m) => print_measurement(rt, m),
+        None => cases::print_word(rt, 0),
+        Some(m) => print_measurement(rt, m),
     }
 }
 

@@ -6,6 +6,7 @@ use Rattle.number.specs.Tabulated.{tabulated}
 use Rattle.kept.specs.declared.KeptValues.{KeptValues}
 use Rattle.wheel.specs.declared.WheelPreintegration.{WheelPreintegration}
 use Rattle.wheel.specs.Integrator.{make_of}
+use Rattle.wheel.proofs.Cases.{made_or_blank}
 use Rattle.runs.specs.declared.Ran.{Ran}
 use Rattle.runs.specs.Events.{events_in}
 use Rattle.runs.specs.Run.{ended, ran_of}
@@ -17,6 +18,7 @@ unfolding ran_of
 returns c =
     let args = c.args in
     let events = events_in args.events.now in
-    let made = c.new-made.ensures ∙ (λ i. make_of (c.drive_of-drive.ensures i) (c.noise_of.ensures i)) in
-    let kept = ap (λ (r : Ran). r.state.kept) c.run-ran.ensures.value ∙ ap (λ (t : Told WheelPreintegration). (ended t.value events).kept) made in
+    let made = ap (λ (t : Told WheelPreintegration). t.value) (c.new-made.ensures ∙ (λ i. make_of (c.drive_of-drive.ensures i) (c.noise_of.ensures i))) in
+    let state = c.unwrap_or-state.ensures ∙ made_or_blank c.new-made.result ∙ made in
+    let kept = ap (λ (r : Ran). r.state.kept) c.run-ran.ensures.value ∙ ap (λ (s : WheelPreintegration). (ended s events).kept) state in
     c.store.ensures ∙ ap (λ (k : KeptValues). tabulated (length args.out.now) (kept_number k)) kept
