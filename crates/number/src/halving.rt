@@ -27,14 +27,12 @@ pub fn halvings(ratio: f64) -> Halved
 fn first_halvings(ratio: f64) -> Halved
     ensures { result ≡ made (first_from 20 0 ratio) }
 {
-    let mut count: u32 = 0;
     let mut parts = 1.0;
-    while count < 20 {
+    for count in 0..20 {
         if !(parts < ratio) {
             return Halved { count, parts };
         }
         parts = parts + parts;
-        count += 1;
     }
-    Halved { count, parts }
+    Halved { count: 20, parts }
 }

@@ -11,8 +11,7 @@
 // each held against another behind a tolerance.
 #![tactic(auto)]
 
-use root::Root;
-use sincos::Turned;
+use number::Numbered;
 use std::io;
 
 fn main(rt: HostRuntime) -> io::Result<()> {
@@ -50,23 +49,22 @@ fn ask_range(rt: &(impl Input + Print)) -> io::Result<()> {
 
 fn ask_root(rt: &(impl Input + Print)) -> io::Result<()> {
     match root::sqrt(cases::read_f64(rt)) {
-        Root::Value(r) => {
+        Ok(r) => {
             cases::print_word(rt, 0)?;
             cases::print_numbers(rt, &[r])
         }
-        Root::NonFinite => cases::print_word(rt, 2),
+        Err(why) => cases::print_word(rt, why.number()),
     }
 }
 
 fn ask_turn(rt: &(impl Input + Print), kind: u64) -> io::Result<()> {
     match sincos::sin_cos(cases::read_f64(rt)) {
-        Turned::Value(v) => {
+        Ok(v) => {
             cases::print_word(rt, 0)?;
             cases::print_near(rt, kind, &[v.sin])?;
             cases::print_near(rt, kind, &[v.cos])
         }
-        Turned::NonFinite => cases::print_word(rt, 2),
-        Turned::AngleRange => cases::print_word(rt, 8),
+        Err(why) => cases::print_word(rt, why.number()),
     }
 }
 

@@ -1,16 +1,15 @@
 -- 01, Composing planar motions: "Formulas as in `compose`."
-use Rattle.std.specs.Prelude.{not, ◌&&◌, ◌||◌, List, [], ◌∷◌, Float}
+use Rattle.std.specs.Prelude.{not, ◌&&◌, ◌||◌, List, [], ◌∷◌, Float, Result}
 use Rattle.number.specs.Float.{◌⊕◌, ◌⊖◌, −◌, ◌<ᶠ◌, ◌≤ᶠ◌, ◌when◌else◌}
 use Rattle.number.specs.Constants.{half, one, PI, TAU}
 use Rattle.number.specs.Constants.{zero as +0}
-use Rattle.number.specs.Said.{Said, gives, refusal, Told, told, accepts, refuses}
+use Rattle.number.specs.Said.{Told, told_result, accepts, refuses}
+use Rattle.sincos.specs.declared.Refusal.{Refusal}
+use Rattle.sincos.specs.Refusals.{row_of}
 use Rattle.sincos.specs.Turn.{turn_of, above_four}
 use Rattle.mat3.specs.Matrix.{rows, yaw, product, transform, transpose, sum, scaled}
 use Rattle.vec3.specs.Vector.{coordinate}
 use Rattle.planar.specs.declared.PlanarMotion.{PlanarMotion}
-use Rattle.planar.specs.declared.Composed.{Composed}
-use Rattle.planar.specs.declared.Outcome.{Outcome}
-use Rattle.planar.specs.declared.Outcome.TheVariants as O
 use Rattle.planar.specs.Motion.{dx, dy, heading, identity, finite_motion}
 
 -- "The heading sum S is kept when −PI ≤ S ≤ PI, else TAU is taken off or added once."
@@ -48,14 +47,9 @@ composed a b =
       covariance = symmetrized (carried (first_jacobian (coordinate t 0) (coordinate t 1)) a.covariance) (carried (turn_matrix (heading a)) b.covariance);
     }
 
--- 01, Refusal numbers: 2 NonFinite, 8 AngleRange
-abbrev pub said_outcome : Outcome → Said (Unit {0})
-said_outcome O.Accepted = gives tt
-said_outcome O.NonFinite = refusal 2
-said_outcome O.AngleRange = refusal 8
-
-abbrev pub told_composed : Composed → Told PlanarMotion
-told_composed r = told (said_outcome r.outcome) r.motion
+-- no motion comes with a refusal: 01's "no matrix"
+abbrev pub told_composed : Result PlanarMotion Refusal → Told PlanarMotion
+told_composed r = told_result row_of identity r
 
 -- "Public composing refuses 2 for any input not finite, then 8 for a heading above 4 in size, then 2 for the result."
 unfoldable pub compose_of : PlanarMotion → PlanarMotion → Told PlanarMotion

@@ -10,17 +10,3 @@ pub struct PlanarMotion {
     pub delta: [f64; 3],
     pub covariance: [f64; 9],
 }
-
-#[derive(Clone, Copy)]
-pub enum Outcome {
-    Accepted,
-    NonFinite,
-    AngleRange,
-}
-
-// The composed motion, or a refusal beside the identity.
-#[derive(Clone, Copy)]
-pub struct Composed {
-    pub outcome: Outcome,
-    pub motion: PlanarMotion,
-}

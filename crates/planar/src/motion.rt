@@ -1,11 +1,11 @@
 // A planar motion with its covariance, and the composing of two, which refuses.
 ghost use Rattle.std.specs.Prelude.{◌≡◌};
-ghost use Rattle.number.specs.Said.{told};
-ghost use Rattle.planar.specs.Compose.{compose_of, said_outcome, told_composed};
-ghost use Rattle.planar.specs.Motion.{finite_motion, identity};
+ghost use Rattle.planar.specs.Compose.{compose_of, told_composed};
+ghost use Rattle.planar.specs.Motion.{finite_motion};
 
 use crate::formula::composed;
-use crate::{Composed, Outcome, PlanarMotion};
+use crate::PlanarMotion;
+use sincos::Refusal;
 
 impl PlanarMotion {
     // No motion, no uncertainty.
@@ -17,40 +17,24 @@ impl PlanarMotion {
     pub fn is_finite(self) -> bool
         ensures { result ≡ finite_motion self }
     {
-        let delta = self.delta;
-        let covariance = self.covariance;
-        vec3::is_finite_vector(delta) & mat3::is_finite(covariance)
+        vec3::is_finite_vector(self.delta) & mat3::is_finite(self.covariance)
     }
 
     // The motion `self` then `next`. The covariance propagates to first order through the composition; the two motions' noise is independent.
-    pub fn compose(self, next: PlanarMotion) -> Composed
+    #[tactic(auto, unfolding(crate::specs::Compose::compose_of))]
+    pub fn compose(self, next: PlanarMotion) -> Result<PlanarMotion, Refusal>
         ensures { told_composed result ≡ compose_of self next }
     {
         if !(self.is_finite() & next.is_finite()) {
-            return refused(Outcome::NonFinite);
+            return Err(Refusal::NonFinite);
         }
-        let a = self.delta;
-        let b = next.delta;
-        if sincos::is_above_four(a[2]) | sincos::is_above_four(b[2]) {
-            return refused(Outcome::AngleRange);
+        if sincos::is_above_four(self.delta[2]) | sincos::is_above_four(next.delta[2]) {
+            return Err(Refusal::AngleRange);
         }
         let motion = composed(self, next);
         if !motion.is_finite() {
-            return refused(Outcome::NonFinite);
+            return Err(Refusal::NonFinite);
         }
-        Composed {
-            outcome: Outcome::Accepted,
-            motion,
-        }
-    }
-}
-
-// A refusal, beside no motion.
-fn refused(outcome: Outcome) -> Composed
-    ensures { told_composed result ≡ told (said_outcome outcome) identity }
-{
-    Composed {
-        outcome,
-        motion: PlanarMotion::IDENTITY,
+        Ok(motion)
     }
 }

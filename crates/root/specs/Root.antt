@@ -1,15 +1,15 @@
 -- 01, Square root, sine, cosine: "Root: 0 keeps its sign, +infinity gives itself, negative or NaN is refused 2. For finite x above 0 the
 -- root is the one f64 for which x lies strictly between the squares of the midpoints to its neighbours, as whole-number inequalities."
-use Rattle.std.specs.Prelude.{ℕ, zero, suc, ◌+◌, ◌-◌, ◌*◌, ◌/◌, ◌%◌, ◌^◌, ◌<◌, Bool, not, T, ltb, Float}
+use Rattle.std.specs.Prelude.{ℕ, zero, suc, ◌+◌, ◌-◌, ◌*◌, ◌/◌, ◌%◌, ◌^◌, ◌<◌, Bool, not, T, ltb, Float, Result}
 use Rattle.std.specs.Float.{nan, inf, fin, binary64}
 use Rattle.std.specs.Float.Ieee.{up, down, fits, to_bits, of_bits}
 use Rattle.std.specs.Float.Ieee.Positive.{positive}
 use Rattle.number.specs.Float.{◌<ᶠ◌, ◌=ᶠ◌, ◌when◌else◌}
 use Rattle.number.specs.Constants.{infinity}
 use Rattle.number.specs.Constants.{zero as +0}
-use Rattle.number.specs.Said.{Said, gives, refused, refusal}
-use Rattle.root.specs.declared.Root.{Root}
-use Rattle.root.specs.declared.Root.TheVariants as R
+use Rattle.number.specs.Said.{Said, gives, refused, refusal, said_result}
+use Rattle.number.specs.declared.refusal.Refusal.{Refusal}
+use Rattle.number.specs.Refusals.{row_of}
 
 -- ---- the inequalities
 
@@ -73,10 +73,8 @@ sqrt_of x =
     refusal 2 when not (+0 <ᶠ x) else
     gives (root_of x)
 
--- 01, Refusal numbers: 2 NonFinite
-abbrev pub said_root : Root → Said Float
-said_root (R.Value r) = gives r
-said_root R.NonFinite = refusal 2
+abbrev pub said_root : Result Float Refusal → Said Float
+said_root r = said_result row_of r
 
 -- the number that is given, or a NaN where there is none
 abbrev pub or_nan : Said Float → Float

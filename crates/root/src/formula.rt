@@ -2,14 +2,11 @@
 ghost use Rattle.std.specs.Prelude.{◌≡◌};
 ghost use Rattle.root.specs.Root.{or_nan, sqrt_of};
 
-use crate::{Root, sqrt};
+use crate::sqrt;
 
 // The root of x, or a NaN where it has none.
 pub fn root_or_nan(x: f64) -> f64
     ensures { result ≡ or_nan (sqrt_of x) }
 {
-    match sqrt(x) {
-        Root::Value(r) => r,
-        Root::NonFinite => 0.0 / 0.0,
-    }
+    sqrt(x).unwrap_or(f64::NAN)
 }

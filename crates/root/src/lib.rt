@@ -9,12 +9,7 @@ ghost use Rattle.root.specs.Inside.Steps.{RootBits, Floor, Scale};
 
 pub mod formula;
 
-// What `sqrt` answers: a root, or NonFinite for a NaN and for a number below zero, which have none.
-#[derive(Clone, Copy)]
-pub enum Root {
-    Value(f64),
-    NonFinite,
-}
+use number::Refusal;
 
 // Near the root of m, by a parabola: within some half a hundredth. Nothing but its range is promised, since the steps that follow go from any guess.
 fn first_guess(m: u64) -> u64
@@ -119,19 +114,20 @@ fn positive_root(x: f64) -> f64
     f64::from_bits(root_bits(f64::to_bits(x)))
 }
 
-// The root of x, rounded to the nearest f64. A zero, of either sign, and the infinity are their own roots.
-pub fn sqrt(x: f64) -> Root
+// The root of x, rounded to the nearest f64; a NaN and a number below zero have none. A zero, of either sign, and the infinity are their own roots.
+#[tactic(auto, unfolding(crate::specs::Root::sqrt_of))]
+pub fn sqrt(x: f64) -> Result<f64, Refusal>
     ensures { said_root result ≡ sqrt_of x }
 {
     if x == 0.0 {
-        return Root::Value(x);
+        return Ok(x);
     }
     let inf = f64::from_bits(0x7ff0_0000_0000_0000);
     if x == inf {
-        return Root::Value(x);
+        return Ok(x);
     }
     if !(x > 0.0) {
-        return Root::NonFinite;
+        return Err(Refusal::NonFinite);
     }
-    Root::Value(positive_root(x))
+    Ok(positive_root(x))
 }

@@ -1,15 +1,15 @@
 -- 01, Square root, sine, cosine: "Sine and cosine take |x| ≤ 4: not finite is refused 2, above 4 is refused 8. One fixed evaluation, written
 -- in docs/ first, with a short table of reciprocal factorials as constants, is part of this document's definition." The evaluation is docs/SINCOS.md's.
-use Rattle.std.specs.Prelude.{ℕ, zero, suc, ◌*◌, Bool, not, ◌&&◌, List, [], ◌∷◌, get_or, Float}
+use Rattle.std.specs.Prelude.{ℕ, zero, suc, ◌*◌, Bool, not, ◌&&◌, List, [], ◌∷◌, get_or, Float, Result}
 use Rattle.std.specs.Float.{binary64}
 use Rattle.std.specs.Float.Ieee.{of_bits}
 use Rattle.number.specs.Float.{◌⊖◌, ◌⊗◌, ◌⊘◌, −◌, ◌<ᶠ◌, ◌≤ᶠ◌, ◌when◌else◌, finite, size}
 use Rattle.number.specs.Constants.{one, c2, c3, c4, c5, c2^-5, PI, H, L}
 use Rattle.number.specs.Constants.{zero as +0}
-use Rattle.number.specs.Said.{Said, gives, refusal}
+use Rattle.number.specs.Said.{Said, gives, refusal, said_result}
 use Rattle.sincos.specs.declared.SinCos.{SinCos}
-use Rattle.sincos.specs.declared.Turned.{Turned}
-use Rattle.sincos.specs.declared.Turned.TheVariants as T
+use Rattle.sincos.specs.declared.Refusal.{Refusal}
+use Rattle.sincos.specs.Refusals.{row_of}
 
 -- ---- the table: F k is the f64 nearest to 1/k! (Statements.antt)
 
@@ -96,8 +96,5 @@ sin_cos_of x =
     refusal 8 when above_four x else
     gives (turn_of x)
 
--- 01, Refusal numbers: 2 NonFinite, 8 AngleRange
-abbrev pub said_turned : Turned → Said SinCos
-said_turned (T.Value v) = gives v
-said_turned T.NonFinite = refusal 2
-said_turned T.AngleRange = refusal 8
+abbrev pub said_turned : Result SinCos Refusal → Said SinCos
+said_turned r = said_result row_of r

@@ -2,12 +2,13 @@
 #![tactic(auto)]
 
 ghost use Rattle.std.specs.Prelude.{◌≡◌};
+ghost use Rattle.sincos.specs.Refusals.{row_of};
 ghost use Rattle.sincos.specs.Turn.{above_four, said_turned, sin_cos_of};
 
 pub mod formula;
 
 use formula::turn_of;
-use number::{is_finite, size};
+use number::{Numbered, is_finite, size};
 
 #[derive(Clone, Copy)]
 pub struct SinCos {
@@ -15,24 +16,36 @@ pub struct SinCos {
     pub cos: f64,
 }
 
-// The two values, or why there are none: the angle is an infinity or a NaN, or it is above 4 in size.
-#[derive(Clone, Copy)]
-pub enum Turned {
-    Value(SinCos),
+#[derive(Clone, Copy, Debug, PartialEq, Eq)]
+pub enum Refusal {
+    // The angle, or something else that was asked about, is an infinity or a NaN.
     NonFinite,
+    // A finite angle above 4 in size.
     AngleRange,
 }
 
-pub fn sin_cos(x: f64) -> Turned
+impl Numbered for Refusal {
+    ghost row_of = { row_of };
+
+    fn number(self) -> u64 {
+        match self {
+            Refusal::NonFinite => 2,
+            Refusal::AngleRange => 8,
+        }
+    }
+}
+
+#[tactic(auto, unfolding(crate::specs::Turn::sin_cos_of))]
+pub fn sin_cos(x: f64) -> Result<SinCos, Refusal>
     ensures { said_turned result ≡ sin_cos_of x }
 {
     if !is_finite(x) {
-        return Turned::NonFinite;
+        return Err(Refusal::NonFinite);
     }
     if is_above_four(x) {
-        return Turned::AngleRange;
+        return Err(Refusal::AngleRange);
     }
-    Turned::Value(turn_of(x))
+    Ok(turn_of(x))
 }
 
 // A finite angle above 4 in size: what AngleRange refuses.

@@ -2,7 +2,6 @@
 #![tactic(auto)]
 
 use drive::DifferentialDrive;
-use root::Root;
 use std::io;
 use wheel_odom::{Information, WheelOdomMeasurement};
 
@@ -31,8 +30,8 @@ fn main(rt: HostRuntime) -> io::Result<()> {
 
 fn print_root(rt: &impl Print, x: f64) -> io::Result<()> {
     match root::sqrt(x) {
-        Root::Value(r) => print_f64(rt, r),
-        Root::NonFinite => rt.println("refused 2"),
+        Ok(r) => print_f64(rt, r),
+        Err(_) => rt.println("refused 2"),
     }
 }
 

@@ -176,20 +176,14 @@ fn ask_jacobian(rt: &(impl Input + Print), drive: DifferentialDrive) -> io::Resu
     }
 }
 
-// The stored motion, then the record's.
+// The stored motion, then the record's; beside a refusal stands no motion.
 fn ask_composed(rt: &(impl Input + Print), kind: u64, stored: PlanarMotion) -> io::Result<()> {
     let composed = stored.compose(read_motion(rt));
-    let outcome = composed.outcome;
-    cases::print_word(rt, number_of(outcome))?;
-    print_motion(rt, kind, composed.motion)
-}
-
-fn number_of(outcome: planar::Outcome) -> u64 {
-    match outcome {
-        planar::Outcome::Accepted => 0,
-        planar::Outcome::NonFinite => 2,
-        planar::Outcome::AngleRange => 8,
+    match composed {
+        Ok(_) => cases::print_word(rt, 0)?,
+        Err(why) => cases::print_word(rt, why.number())?,
     }
+    print_motion(rt, kind, composed.unwrap_or(PlanarMotion::IDENTITY))
 }
 
 // ---- what a record holds behind its kind

