@@ -14,6 +14,7 @@ impl PlanarMotion {
         covariance: [0.0, 0.0, 0.0, 0.0, 0.0, 0.0, 0.0, 0.0, 0.0],
     };
 
+    #[tactic(auto, unfolding(crate::specs::Motion::finite_motion))]
     pub fn is_finite(self) -> bool
         ensures { result ≡ finite_motion self }
     {

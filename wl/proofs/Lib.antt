@@ -1,0 +1,5 @@
+-- Laws that belong to no one function.
+pub mod Sound
+pub mod Cases
+pub mod Faults
+pub mod Statements

@@ -1,0 +1,4 @@
+-- 01, The log: its layout, and what breaks it.
+pub mod Layout
+pub mod Faults
+pub mod Statements
