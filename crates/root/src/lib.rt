@@ -11,70 +11,79 @@ pub mod formula;
 
 use number::Refusal;
 
-// Near the root of m, by a parabola: within some half a hundredth. Nothing but its range is promised, since the steps that follow go from any guess.
-fn first_guess(m: u64) -> u64
-    requires { (2 ^ 52 ≤ m) × (m + 2 ≤ 2 ^ 54) }
-    ensures { (2 ^ 26 ≤ result) × (result ≤ 2 ^ 28) }
-{
-    let short = 107_000 - m / 0x40_0000_0000;
-    151_000_000 - short * short * 167 / 16384
+// A whole number of 53 or 54 binary digits, and not 54 ones.
+#[derive(Clone, Copy)]
+struct Digits {
+    m: u64,
+    ghost large: { 2 ^ 52 ≤ m },
+    ghost small: { m + 2 ≤ 2 ^ 54 },
 }
 
-// The largest s with s * s <= m, by Newton's iteration: the first step leads to or above the root, and the others come down to it.
-fn half_root(m: u64) -> u64
-    requires { (2 ^ 52 ≤ m) × (m + 2 ≤ 2 ^ 54) }
-    ensures { Floor m result }
-{
-    let guess = first_guess(m);
-    let mut s = (guess + m / guess) / 2;
-    while m < s * s {
-        s = (s + m / s) / 2;
+impl Digits {
+    // Near the root of m, by a parabola: within some half a hundredth. Nothing but its range is promised, since the steps that follow go from any guess.
+    fn first_guess(self) -> u64
+        ensures { (2 ^ 26 ≤ result) × (result ≤ 2 ^ 28) }
+    {
+        let short = 107_000 - self.m / 0x40_0000_0000;
+        151_000_000 - short * short * 167 / 16384
     }
-    s
-}
 
-// The largest q with q * q <= m * 2^54: the root of m, and 27 more binary digits of it by one division.
-fn divided_root(m: u64) -> u64
-    requires { (2 ^ 52 ≤ m) × (m + 2 ≤ 2 ^ 54) }
-    ensures { Floor (m * 2 ^ 54) result }
-{
-    let s = half_root(m);
-    let d = (m - s * s) * 0x800_0000;
-    let t = d / (2 * s);
-    let u = d % (2 * s);
-    let q = s * 0x800_0000 + t;
-    if t * t <= u * 0x800_0000 { q } else { q - 1 }
-}
+    // The largest s with s * s <= m, by Newton's iteration: the first step leads to or above the root, and the others come down to it.
+    fn half_root(self) -> u64
+        ensures { Floor self.m result }
+    {
+        let m = self.m;
+        let guess = self.first_guess();
+        let mut s = (guess + m / guess) / 2;
+        while m < s * s {
+            s = (s + m / s) / 2;
+        }
+        s
+    }
 
-// The largest q with q * q <= m * 2^54. Within 2^26 of 2^52 or of 2^54 the root moves by half of what m moves, to the last digit, so that it takes no division:
-// the square of a length that is nearly 1 is such a number, and so is one near any other power of 4.
-fn whole_root(m: u64) -> u64
-    requires { (2 ^ 52 ≤ m) × (m + 2 ≤ 2 ^ 54) }
-    ensures { Floor (m * 2 ^ 54) result }
-{
-    if m == 0x10_0000_0000_0000 {
-        return 0x20_0000_0000_0000;
+    // The largest q with q * q <= m * 2^54: the root of m, and 27 more binary digits of it by one division.
+    fn divided_root(self) -> u64
+        ensures { Floor (self.m * 2 ^ 54) result }
+    {
+        let m = self.m;
+        let s = self.half_root();
+        let d = (m - s * s) * 0x800_0000;
+        let t = d / (2 * s);
+        let u = d % (2 * s);
+        let q = s * 0x800_0000 + t;
+        if t * t <= u * 0x800_0000 { q } else { q - 1 }
     }
-    if m <= 0x10_0000_0400_0000 {
-        return m + 0xf_ffff_ffff_ffff;
+
+    // The largest q with q * q <= m * 2^54. Within 2^26 of 2^52 or of 2^54 the root moves by half of what m moves, to the last digit, so that it takes no
+    // division: the square of a length that is nearly 1 is such a number, and so is one near any other power of 4.
+    fn whole_root(self) -> u64
+        ensures { Floor (self.m * 2 ^ 54) result }
+    {
+        let m = self.m;
+        if m == 0x10_0000_0000_0000 {
+            return 0x20_0000_0000_0000;
+        }
+        if m <= 0x10_0000_0400_0000 {
+            return m + 0xf_ffff_ffff_ffff;
+        }
+        if 0x3f_ffff_fc00_0000 <= m {
+            return 0x3f_ffff_ffff_ffff - (0x40_0000_0000_0000 - m) / 2;
+        }
+        self.divided_root()
     }
-    if 0x3f_ffff_fc00_0000 <= m {
-        return 0x3f_ffff_ffff_ffff - (0x40_0000_0000_0000 - m) / 2;
-    }
-    divided_root(m)
 }
 
 // The number m * 4^h.
 #[derive(Clone, Copy)]
 struct Scaled {
-    m: u64,
+    digits: Digits,
     h: u64,
 }
 
-// m0 * 2^j0 as m * 4^h, where m has 53 or 54 binary digits. The loop turns only for a subnormal number.
+// m0 * 2^j0 as m * 4^h. The loop turns only for a subnormal number.
 fn normalized(m0: u64, j0: u64) -> Scaled
     requires { (0 < m0) × (m0 < 2 ^ 53) × (1022 ≤ j0) × (j0 < 3068) }
-    ensures { Scale (m0 * 2 ^ j0) result.m result.h × (result.h < 1534) }
+    ensures { Scale (m0 * 2 ^ j0) result.digits.m result.h × (result.h < 1534) }
 {
     let mut m = m0;
     let mut j = j0;
@@ -83,9 +92,15 @@ fn normalized(m0: u64, j0: u64) -> Scaled
         j = j - 1;
     }
     if j % 2 == 0 {
-        Scaled { m: m, h: j / 2 }
+        Scaled {
+            digits: Digits { m },
+            h: j / 2,
+        }
     } else {
-        Scaled { m: m * 2, h: j / 2 }
+        Scaled {
+            digits: Digits { m: m * 2 },
+            h: j / 2,
+        }
     }
 }
 
@@ -102,7 +117,7 @@ fn root_bits(bits: u64) -> u64
     } else {
         normalized(digits + 0x10_0000_0000_0000, field + 1021)
     };
-    let q = whole_root(s.m);
+    let q = s.digits.whole_root();
     s.h * 0x10_0000_0000_0000 + (q + 1) / 2
 }
 

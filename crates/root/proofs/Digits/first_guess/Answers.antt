@@ -2,7 +2,7 @@
 use Prim.Native.Nat.{ℕ, ◌*◌, ◌-◌, ◌/◌, ◌≤◌, ◌^◌}
 use native.Mathlib.Nat.{mul-le-mul}
 use native.Mathlib.Omega.{arith}
-use Rattle.root.proofs.first_guess.Goals as goal
+use Rattle.root.proofs.Digits.first_guess.Goals as goal
 
 square-of-short : (m : ℕ) → 2 ^ 52 ≤ m → (107000 - m / 274877906944) * (107000 - m / 274877906944) ≤ 90616 * 90616
 square-of-short m h = mul-le-mul short short
@@ -11,4 +11,4 @@ square-of-short m h = mul-le-mul short short
     short = omega arith
 
 pub returns : goal.returns
-returns c = (omega (arith, square-of-short c.args.m c.requires.0), omega arith)
+returns c = (omega (arith, square-of-short c.args.self.m c.args.self.large), omega arith)
