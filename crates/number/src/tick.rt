@@ -6,22 +6,14 @@ ghost use Rattle.number.specs.Ticks.{residue, signed, tick_difference, tick_in_r
 pub fn bits_of(a: i64) -> u64
     ensures { result ≡ residue 64 a }
 {
-    if a >= 0 {
-        a as u64
-    } else {
-        u64::MAX - ((-1 - a) as u64)
-    }
+    a.cast_unsigned()
 }
 
 // The number whose two's complement bits are n.
 pub fn of_bits(n: u64) -> i64
     ensures { result ≡ signed 64 n }
 {
-    if n < 0x8000_0000_0000_0000 {
-        n as i64
-    } else {
-        -1 - ((u64::MAX - n) as i64)
-    }
+    n.cast_signed()
 }
 
 // The lowest bits of n, so many as the width says, as a number whose sign is the highest of them, by its two's complement bits.
