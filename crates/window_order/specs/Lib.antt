@@ -2,3 +2,4 @@
 pub mod Order
 pub mod Window
 pub mod Statements
+pub mod Inside
