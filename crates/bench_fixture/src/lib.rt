@@ -87,9 +87,10 @@ pub extern "C" fn bench_information(
 {
     let covariance = [cxx, cxy, cxw, cxy, cyy, cyw, cxw, cyw, cww];
     let m = WheelOdomMeasurement::new([0.0, 0.0, heading], covariance);
-    let informed = m.information();
-    let matrix = informed.matrix;
-    matrix[0]
+    match m.information() {
+        Ok(matrix) => matrix[0],
+        Err(_) => 0.0,
+    }
 }
 
 // How long a batch of samples took, on a board with no biases and some noise.

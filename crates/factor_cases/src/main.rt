@@ -24,15 +24,10 @@ use stationary::{StationaryFactor, StationaryGyro};
 use stationary_information::StationaryInfo;
 use std::io;
 use wheel_factor::{Extrinsic, WheelOdomFactor};
-use wheel_odom::{Information, Outcome, WheelOdomMeasurement};
+use wheel_odom::WheelOdomMeasurement;
 
-// A proved loop has to end, and nothing says that the input does. So the loop has a number of turns that no run uses up.
 fn main(rt: HostRuntime) -> io::Result<()> {
-    for _ in 0..u64::MAX {
-        let kind = cases::read_word(&rt);
-        if kind == 0 {
-            return Ok(());
-        }
+    for kind in cases::kinds(&rt) {
         cases::print_word(&rt, kind)?;
         ask(&rt, kind)?;
         cases::end_line(&rt)?;
@@ -60,47 +55,29 @@ fn ask(rt: &(impl Input + Print), kind: u64) -> io::Result<()> {
 
 fn ask_measurements(rt: &(impl Input + Print)) -> io::Result<()> {
     let full = read_measurement(rt);
-    let delta = full.delta;
-    let covariance = full.covariance;
-    let plain = WheelOdomMeasurement::new(delta, covariance);
+    let plain = WheelOdomMeasurement::new(full.delta, full.covariance);
+    let motion = full.planar_motion();
     print_measurement(rt, 2, plain)?;
     print_measurement(
         rt,
         2,
         plain.with_out_of_plane_sigmas(full.z_sigma, full.tilt_sigma),
     )?;
-    print_measurement(
-        rt,
-        2,
-        WheelOdomMeasurement::from_motion(full.planar_motion()),
-    )?;
-    print_motion(rt, 2, full.planar_motion())
+    print_measurement(rt, 2, WheelOdomMeasurement::from(motion))?;
+    print_motion(rt, 2, motion)
 }
 
 fn ask_information(rt: &(impl Input + Print), kind: u64) -> io::Result<()> {
-    let m = read_measurement(rt);
-    let informed = m.information();
-    let outcome = informed.outcome;
-    let matrix = informed.matrix;
-    cases::print_word(rt, information_number(outcome))?;
-    cases::print_near(rt, kind, &matrix)
-}
-
-fn information_number(outcome: Information) -> u64 {
-    match outcome {
-        Information::Given => 0,
-        Information::NoInformation => 9,
-        Information::AngleRange => 8,
-        Information::NonFinite => 2,
-    }
+    let informed = read_measurement(rt).information();
+    print_outcome(rt, informed)?;
+    cases::print_near(rt, kind, &informed.unwrap_or([0.0; 36]))
 }
 
 fn ask_composed(rt: &(impl Input + Print), kind: u64) -> io::Result<()> {
     let first = read_measurement(rt);
     let composed = first.compose(read_measurement(rt));
-    let outcome = composed.outcome;
-    print_outcome(rt, outcome)?;
-    print_measurement(rt, kind, composed.measurement)
+    print_outcome(rt, composed)?;
+    print_measurement(rt, kind, composed.unwrap_or(WheelOdomMeasurement::BLANK))
 }
 
 fn ask_factor_valid(rt: &(impl Input + Print)) -> io::Result<()> {
@@ -111,9 +88,8 @@ fn ask_factor_valid(rt: &(impl Input + Print)) -> io::Result<()> {
 fn ask_factors_composed(rt: &(impl Input + Print), kind: u64) -> io::Result<()> {
     let first = read_factor(rt);
     let composed = first.compose(read_factor(rt));
-    let outcome = composed.outcome;
-    print_outcome(rt, outcome)?;
-    print_factor(rt, kind, composed.factor)
+    print_outcome(rt, composed)?;
+    print_factor(rt, kind, composed.unwrap_or(WheelOdomFactor::BLANK))
 }
 
 // ---- still factors, and limits
@@ -131,27 +107,19 @@ fn ask_still_factor(rt: &(impl Input + Print)) -> io::Result<()> {
 
 fn ask_still_information(rt: &(impl Input + Print)) -> io::Result<()> {
     let f = read_still(rt);
+    let informed = stationary_information::information(f);
     cases::print_word(rt, f.is_valid() as u64)?;
-    match stationary_information::information(f) {
-        Ok(info) => {
-            cases::print_word(rt, 0)?;
-            print_info(rt, info)
-        }
-        Err(refusal) => {
-            cases::print_word(rt, refusal.number())?;
-            print_info(rt, StationaryInfo::BLANK)
-        }
-    }
+    print_outcome(rt, informed)?;
+    print_info(rt, informed.unwrap_or(StationaryInfo::BLANK))
 }
 
 fn ask_still_composed(rt: &(impl Input + Print)) -> io::Result<()> {
     let first = read_still(rt);
-    match first.compose(read_still(rt)) {
-        Ok(f) => {
-            cases::print_word(rt, 0)?;
-            print_still(rt, f)
-        }
-        Err(refusal) => cases::print_word(rt, refusal.number()),
+    let composed = first.compose(read_still(rt));
+    print_outcome(rt, composed)?;
+    match composed {
+        Ok(f) => print_still(rt, f),
+        Err(_) => Ok(()),
     }
 }
 
@@ -165,8 +133,8 @@ fn ask_limits_joined(rt: &(impl Input + Print)) -> io::Result<()> {
 // ---- what a record holds
 
 fn read_measurement(rt: &impl Input) -> WheelOdomMeasurement {
-    let delta = cases::read_three(rt);
-    let covariance = cases::read_nine(rt);
+    let delta = cases::read_array(rt);
+    let covariance = cases::read_array(rt);
     let z_sigma = cases::read_f64(rt);
     let tilt_sigma = cases::read_f64(rt);
     WheelOdomMeasurement {
@@ -178,8 +146,8 @@ fn read_measurement(rt: &impl Input) -> WheelOdomMeasurement {
 }
 
 fn read_extrinsic(rt: &impl Input) -> Extrinsic {
-    let rotation = cases::read_nine(rt);
-    let translation = cases::read_three(rt);
+    let rotation = cases::read_array(rt);
+    let translation = cases::read_array(rt);
     Extrinsic {
         rotation,
         translation,
@@ -247,24 +215,18 @@ fn read_still(rt: &impl Input) -> StationaryFactor {
 
 // ---- what a line holds
 
-fn print_outcome(rt: &impl Print, outcome: Outcome) -> io::Result<()> {
-    cases::print_word(
-        rt,
-        match outcome {
-            Outcome::Accepted => 0,
-            Outcome::NonFinite => 2,
-            Outcome::AngleRange => 8,
-            Outcome::NotJoined => 10,
-        },
-    )
+fn print_outcome<T: Copy, E: Copy + Numbered>(
+    rt: &impl Print,
+    answer: Result<T, E>,
+) -> io::Result<()> {
+    cases::print_word(rt, answer.err().map_or(0, |refusal| refusal.number()))
 }
 
 fn print_motion(rt: &(impl Input + Print), kind: u64, motion: PlanarMotion) -> io::Result<()> {
-    let d = motion.delta;
-    let covariance = motion.covariance;
-    cases::print_near(rt, kind, &[d[0], d[1]])?;
-    cases::print_near(rt, kind, &[d[2]])?;
-    cases::print_near(rt, kind, &covariance)
+    let [x, y, heading] = motion.delta;
+    cases::print_near(rt, kind, &[x, y])?;
+    cases::print_near(rt, kind, &[heading])?;
+    cases::print_near(rt, kind, &motion.covariance)
 }
 
 fn print_measurement(
@@ -278,23 +240,17 @@ fn print_measurement(
 }
 
 fn print_factor(rt: &(impl Input + Print), kind: u64, f: WheelOdomFactor) -> io::Result<()> {
-    let measurement = f.measurement;
-    let from = f.t_cb_from;
-    let to = f.t_cb_to;
-    let limit = f.huber_chi2;
     cases::print_word(rt, f.from_idx as u64)?;
     cases::print_word(rt, f.to_idx as u64)?;
-    print_measurement(rt, kind, measurement)?;
-    print_extrinsic(rt, from)?;
-    print_extrinsic(rt, to)?;
-    print_limit(rt, limit)
+    print_measurement(rt, kind, f.measurement)?;
+    print_extrinsic(rt, f.t_cb_from)?;
+    print_extrinsic(rt, f.t_cb_to)?;
+    print_limit(rt, f.huber_chi2)
 }
 
 fn print_extrinsic(rt: &impl Print, t: Extrinsic) -> io::Result<()> {
-    let rotation = t.rotation;
-    let translation = t.translation;
-    cases::print_numbers(rt, &rotation)?;
-    cases::print_numbers(rt, &translation)
+    cases::print_numbers(rt, &t.rotation)?;
+    cases::print_numbers(rt, &t.translation)
 }
 
 fn print_limit(rt: &impl Print, limit: Option<f64>) -> io::Result<()> {

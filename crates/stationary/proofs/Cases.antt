@@ -9,13 +9,13 @@ use Rattle.stationary.specs.declared.Refusal.{Refusal}
 use Rattle.stationary.specs.declared.Refusal.TheVariants as R
 use Rattle.stationary.specs.Join.{row_of, said_joined}
 
-abbrev back : Row → Refusal
-back r = R.InvalidFactor when eqb r.number 11 else R.NotJoined when eqb r.number 10 else R.NonFinite
+abbrev refusal_with : Row → Refusal
+refusal_with r = R.InvalidFactor when eqb r.number 11 else R.NotJoined when eqb r.number 10 else R.NonFinite
 
-back_row : (r : Refusal) → back (row_of r) ≡ r
-back_row R.InvalidFactor = refl
-back_row R.NotJoined = refl
-back_row R.NonFinite = refl
+refusal_back : (r : Refusal) → refusal_with (row_of r) ≡ r
+refusal_back R.InvalidFactor = refl
+refusal_back R.NotJoined = refl
+refusal_back R.NonFinite = refl
 
 pub joined_determined : (a b : Result StationaryFactor Refusal) → said_joined a ≡ said_joined b → a ≡ b
-joined_determined = said_result_determined row_of (determined row_of back back_row)
+joined_determined = said_result_determined row_of (determined row_of refusal_with refusal_back)

@@ -1,21 +1,19 @@
 -- When two still factors are joined, and what their join is: each test that a composition passes is read back from its being given. Of two sigmas that
 -- are finite and above 0 neither is a NaN, so the larger is one of them and below neither. Assumes nothing.
-use Prim.Native.Nat.{ℕ}
 use mathlib.Core.Path.{◌≡◌, refl, sym}
 use mathlib.Core.Logic.{inl, inr}
 use mathlib.Core.Bool.{Bool, true, false, cond, not, ◌&&◌, ◌||◌, and-eq-true_iff, false≢true}
 use lib.Dec.{eqb}
 use lib.Ieee.{Float, is_nan}
-use borrow.Author.Tests.{eq-eqb, eqb-true, eqb-false}
+use borrow.Author.Tests.{eq-eqb}
 use Rattle.number.specs.Float.{finite, larger, ◌⊕◌, ◌<ᶠ◌, ◌≤ᶠ◌, ◌when◌else◌}
 use Rattle.number.specs.Fit.{finite_positive}
-use Rattle.number.specs.Said.{Said, gives, refusal}
-use Rattle.number.proofs.Cases.{refused_not_given}
+use Rattle.std.proofs.Common.{arith}
+use Rattle.number.specs.Said.{gives, refusal}
 use Rattle.number.proofs.float.Order.{<ᶠ-irreflexive}
 use Rattle.number.proofs.float.Monotone.{<ᶠ-≤ᶠ, not_below, finite_no_nan}
-use Rattle.robust.specs.Huber.{valid_huber}
 use Rattle.stationary.specs.declared.StationaryFactor.{StationaryFactor}
-use Rattle.stationary.specs.Factor.{valid_factor, valid_gyro, valid_sigmas, valid_walk}
+use Rattle.stationary.specs.Factor.{valid_factor, valid_sigmas}
 use Rattle.stationary.specs.Join.{compose_of, finite_gyro, joined_factor, joined_gyro}
 use Rattle.stationary.specs.Statements.{Looser, Joins}
 
@@ -29,20 +27,6 @@ pub composed_at_shared_index : (a b : StationaryFactor) → valid_factor a ≡ t
     gives (joined_factor a b))
 unfolding compose_of joined_factor
 composed_at_shared_index a b p q e = simp (p, q, eq-eqb a.to_idx b.from_idx e)
-
--- what is given where a refusal stands before it has passed the refusal's test
-passed : {A : Type 0} (n : ℕ) (test : Bool) (rest : Said A) (v : A) → (refusal n when test else rest) ≡ gives v → (test ≡ false) × (rest ≡ gives v)
-passed n true rest v h = absurd (refused_not_given h)
-passed n false rest v h = (refl, h)
-
-both : (p q : Bool) → not (p && q) ≡ false → (p ≡ true) × (q ≡ true)
-both true true h = (refl, refl)
-both true false h = absurd (false≢true (sym h))
-both false q h = absurd (false≢true (sym h))
-
-first_alone : (p q : Bool) → (not p || q) ≡ false → (p ≡ true) × (q ≡ false)
-first_alone true q h = (refl, h)
-first_alone false q h = absurd (false≢true (sym h))
 
 -- ---- the sigmas
 
@@ -62,17 +46,6 @@ larger_looser x y p q = go (x <ᶠ y) (is_nan x) refl (fit_no_nan x p)
     go false true e m = absurd (false≢true (sym m))
     go false false e m = record { fit = p; one_of_two = inl refl; first_within = fit_within x p; second_within = not_below x y (fit_no_nan x p) (fit_no_nan y q) e }
 
-third : (p q r s t u : Bool) → (p && q && r && s && t && u) ≡ true → r ≡ true
-third true true true s t u h = refl
-third true true false s t u h = absurd (false≢true h)
-third true false r s t u h = absurd (false≢true h)
-third false q r s t u h = absurd (false≢true h)
-
-all_three : (p q r : Bool) → (p && q && r) ≡ true → (p ≡ true) × (q ≡ true) × (r ≡ true)
-all_three true true r h = (refl, refl, h)
-all_three true false r h = absurd (false≢true h)
-all_three false q r h = absurd (false≢true h)
-
 -- what a valid factor's sigmas are
 record Sigmas (f : StationaryFactor) : Type 0 where
   translation : finite_positive f.translation_sigma_m ≡ true
@@ -81,37 +54,29 @@ record Sigmas (f : StationaryFactor) : Type 0 where
 
 valid_sigmas_lem : (f : StationaryFactor) → valid_factor f ≡ true → Sigmas f
 unfolding valid_factor valid_sigmas
-valid_sigmas_lem f h =
-    let apart = not (eqb f.from_idx f.to_idx) in
-    let fit = third apart (finite_positive f.span_s) (valid_sigmas f) (valid_walk f.calib) (valid_huber f.huber_chi2) (valid_gyro f.gyro f.calib.gyro_noise) h in
-    let three = all_three (finite_positive f.translation_sigma_m) (finite_positive f.rotation_sigma_rad) (finite_positive f.velocity_sigma_m_s) fit in
-    record { translation = three.0; rotation = three.1; velocity = three.2 }
+valid_sigmas_lem f h = record { translation = grind arith; rotation = grind arith; velocity = grind arith }
 
 -- ---- the join
 
 pub composition_joins : (a b f : StationaryFactor) → compose_of a b ≡ gives f → Joins a b f
 unfolding compose_of joined_factor
 composition_joins a b f h =
-    let valid = passed 11 _ _ f h in
-    let meeting = passed 10 _ _ f valid.1 in
-    let numbers = passed 2 _ _ f meeting.1 in
-    let fit = both (valid_factor a) (valid_factor b) valid.0 in
-    let ends = first_alone (eqb a.to_idx b.from_idx) (eqb a.from_idx b.to_idx) meeting.0 in
-    let sums = both (finite (a.span_s ⊕ b.span_s)) (finite_gyro (joined_gyro a.gyro b.gyro)) numbers.0 in
-    let joined : f ≡ joined_factor a b = cc numbers.1 in
-    let s = valid_sigmas_lem a fit.0 in
-    let t = valid_sigmas_lem b fit.1 in
+    let joined : f ≡ joined_factor a b = grind arith in
+    let first : valid_factor a ≡ true = grind arith in
+    let second : valid_factor b ≡ true = grind arith in
+    let s = valid_sigmas_lem a first in
+    let t = valid_sigmas_lem b second in
     rw joined (record {
-      first_valid = fit.0;
-      second_valid = fit.1;
-      meet = eqb-true a.to_idx b.from_idx ends.0;
+      first_valid = first;
+      second_valid = second;
+      meet = grind arith;
       first_start_kept = refl;
       last_end_kept = refl;
-      ends_apart = eqb-false a.from_idx b.to_idx ends.1;
+      ends_apart = grind arith;
       spans_add = refl;
-      span_finite = sums.0;
+      span_finite = grind arith;
       gyro_joined = refl;
-      gyro_finite = sums.1;
+      gyro_finite = grind arith;
       first_calibration_kept = refl;
       limits_joined = refl;
       translation_looser = larger_looser a.translation_sigma_m b.translation_sigma_m s.translation t.translation;

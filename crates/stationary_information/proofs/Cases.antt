@@ -9,12 +9,12 @@ use Rattle.stationary_information.specs.declared.Refusal.TheVariants as R
 use Rattle.stationary_information.specs.declared.StationaryInfo.{StationaryInfo}
 use Rattle.stationary_information.specs.Information.{blank_info, refusal_row, told_informed}
 
-abbrev back : Row → Refusal
-back r = R.InvalidFactor when eqb r.number 11 else R.NonFinite
+abbrev refusal_with : Row → Refusal
+refusal_with r = R.InvalidFactor when eqb r.number 11 else R.NonFinite
 
-back_row : (r : Refusal) → back (refusal_row r) ≡ r
-back_row R.InvalidFactor = refl
-back_row R.NonFinite = refl
+refusal_back : (r : Refusal) → refusal_with (refusal_row r) ≡ r
+refusal_back R.InvalidFactor = refl
+refusal_back R.NonFinite = refl
 
 pub informed_determined : (a b : Result StationaryInfo Refusal) → told_informed a ≡ told_informed b → a ≡ b
-informed_determined = told_result_determined refusal_row (determined refusal_row back back_row) blank_info
+informed_determined = told_result_determined refusal_row (determined refusal_row refusal_with refusal_back) blank_info

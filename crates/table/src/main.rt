@@ -2,8 +2,9 @@
 #![tactic(auto)]
 
 use drive::DifferentialDrive;
+use number::Numbered;
 use std::io;
-use wheel_odom::{Information, WheelOdomMeasurement};
+use wheel_odom::WheelOdomMeasurement;
 
 fn main(rt: HostRuntime) -> io::Result<()> {
     rt.print("2^53+1 converts to ")?;
@@ -64,14 +65,10 @@ fn print_twist(rt: &impl Print) -> io::Result<()> {
 fn print_information(rt: &impl Print) -> io::Result<()> {
     let covariance = mat3::diagonal(-1.0, -1.0, 1.0);
     let m = WheelOdomMeasurement::new([0.0, 0.0, 0.0], covariance);
-    let informed = m.information();
-    let outcome = informed.outcome;
     rt.print("diag(-1,-1,1) gives ")?;
-    match outcome {
-        Information::Given => rt.println("a matrix"),
-        Information::NoInformation => rt.println("9"),
-        Information::AngleRange => rt.println("8"),
-        Information::NonFinite => rt.println("2"),
+    match m.information() {
+        Ok(_) => rt.println("a matrix"),
+        Err(refusal) => println!(rt; "{}", refusal.number()),
     }
 }
 

@@ -1,12 +1,21 @@
 -- What is said in 01's numbers, and the factor beside it, determine the answer. Assumes nothing.
-use mathlib.Core.Path.{◌≡◌, ap}
-use Rattle.number.specs.Said.{Told}
-use Rattle.wheel_odom.proofs.Cases.{outcome_determined}
-use Rattle.wheel_factor.specs.declared.ComposedFactor.{ComposedFactor}
+use Rattle.std.proofs.Common.{◌≡◌, refl, eqb}
+use Rattle.std.specs.Prelude.{Result}
+use Rattle.number.specs.Float.{◌when◌else◌}
+use Rattle.number.specs.Said.{Row}
+use Rattle.number.proofs.Cases.{determined, told_result_determined}
+use Rattle.wheel_factor.specs.declared.Refusal.{Refusal}
+use Rattle.wheel_factor.specs.declared.Refusal.TheVariants as R
 use Rattle.wheel_factor.specs.declared.WheelOdomFactor.{WheelOdomFactor}
-use Rattle.wheel_factor.specs.Factor.{told_factor}
+use Rattle.wheel_factor.specs.Factor.{blank_factor, row_of, told_factor}
 
-pub factor_determined : (a b : ComposedFactor) → told_factor a ≡ told_factor b → a ≡ b
-factor_determined a b e =
-    let same = outcome_determined a.outcome b.outcome (ap (λ (t : Told WheelOdomFactor). t.outcome) e) in
-    λ i. record { outcome = same i; factor = (e i).value }
+abbrev refusal_with : Row → Refusal
+refusal_with r = R.NonFinite when eqb r.number 2 else R.AngleRange when eqb r.number 8 else R.NotJoined
+
+refusal_back : (r : Refusal) → refusal_with (row_of r) ≡ r
+refusal_back R.NotJoined = refl
+refusal_back R.NonFinite = refl
+refusal_back R.AngleRange = refl
+
+pub factor_determined : (a b : Result WheelOdomFactor Refusal) → told_factor a ≡ told_factor b → a ≡ b
+factor_determined = told_result_determined row_of (determined row_of refusal_with refusal_back) blank_factor

@@ -1,19 +1,19 @@
 -- A valid factor's measurement has information, and a joined factor spans from the first's start to the second's end. Assumes nothing.
-use mathlib.Core.Path.{◌≡◌, refl, sym, ap, ◌∙◌, subst}
+use mathlib.Core.Path.{◌≡◌, refl, sym, ◌∙◌}
 use Prim.Native.Nat.{ℕ}
-use mathlib.Core.Bool.{Bool, true, false, false≢true, and-false}
+use mathlib.Core.Bool.{Bool, true, false, not, false≢true, and-false}
 use mathlib.Core.List.{List}
-use borrow.Author.Tests.{eqb-true, eqb-false}
 use lib.Dec.{eqb}
 use lib.Ieee.{Float}
-use Rattle.number.specs.Said.{Said, gives, refused, Told}
+use Rattle.number.specs.Float.{◌when◌else◌}
+use Rattle.number.specs.Said.{Said, gives, refused, refuses, Told}
+use Rattle.number.proofs.Cases.{refused_not_given}
 use Rattle.wheel_odom.specs.declared.WheelOdomMeasurement.{WheelOdomMeasurement}
 use Rattle.wheel_odom.specs.Measurement.{compose_of}
 use Rattle.wheel_odom.specs.Information.{information_of}
 use Rattle.wheel_factor.specs.declared.WheelOdomFactor.{WheelOdomFactor}
-use Rattle.wheel_factor.specs.Factor.{by_measurement, compose_factor_of, is_given, valid_factor}
+use Rattle.wheel_factor.specs.Factor.{blank_factor, by_measurement, compose_factor_of, valid_factor}
 use Rattle.wheel_factor.specs.Statements.{Spans}
-use Rattle.wheel_factor.proofs.Joined.{apart, as_measured}
 
 -- ---- a factor that may enter a solve
 
@@ -32,17 +32,19 @@ valid_has_information f e = go (information_of f.measurement).outcome refl
 -- ---- the ends of a joined factor
 
 pub joined_spans : (a b : WheelOdomFactor) → (compose_factor_of a b).outcome ≡ gives tt → Spans a b (compose_factor_of a b).value
-joined_spans a b = go (eqb a.to_idx b.from_idx) refl
+unfolding compose_factor_of
+joined_spans a b = go (eqb a.to_idx b.from_idx)
   where
+    t : Told WheelOdomMeasurement
+    t = compose_of a.measurement b.measurement
+
     Spanned : Told WheelOdomFactor → Type 0
     Spanned r = r.outcome ≡ gives tt → Spans a b r.value
 
-    measured : (t : Told WheelOdomMeasurement) (s : Said (Unit {0})) → Spanned (by_measurement a b t s)
-    measured t (gives u) e = record { from_the_first = refl; to_the_second = refl }
-    measured t (refused n values) e = absurd (false≢true (ap is_given e))
+    measured : (s : Said (Unit {0})) → Spanned (by_measurement a b t s)
+    measured (gives u) e = record { from_the_first = refl; to_the_second = refl }
+    measured (refused n values) e = absurd (refused_not_given e)
 
-    go : (p : Bool) → eqb a.to_idx b.from_idx ≡ p → Spanned (compose_factor_of a b)
-    go true h =
-        let t = compose_of a.measurement b.measurement in
-        subst Spanned (as_measured a b (eqb-true a.to_idx b.from_idx h) t refl) (measured t t.outcome)
-    go false h = subst Spanned (apart a b (eqb-false a.to_idx b.from_idx h)) (λ e. absurd (false≢true (ap is_given e)))
+    go : (meet : Bool) → Spanned (refuses 10 blank_factor when not meet else by_measurement a b t t.outcome)
+    go true = measured t.outcome
+    go false = λ e. absurd (refused_not_given e)

@@ -2,4 +2,3 @@
 pub mod Cases
 pub mod Laws
 pub mod Statements
-mod Joined

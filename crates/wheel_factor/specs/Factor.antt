@@ -1,17 +1,20 @@
 -- 01, Information of wheel factors: the factor. `is_valid` follows the file.
-use Rattle.std.specs.Prelude.{ℕ, Bool, true, false, not, ◌&&◌, [], ◌∷◌, eqb, Float, Option, None}
+use Rattle.std.specs.Prelude.{ℕ, Bool, true, false, not, ◌&&◌, [], ◌∷◌, eqb, Float, Option, None, Result}
 use Rattle.number.specs.Float.{◌when◌else◌}
 use Rattle.number.specs.Constants.{zero as +0}
-use Rattle.number.specs.Said.{Said, gives, refused, Told, told, accepts, refuses}
+use Rattle.number.specs.Said.{Row, row, Said, gives, refused, Told, told, told_result, accepts, refuses}
 use Rattle.mat3.specs.Matrix.{zeros, finite_matrix}
 use Rattle.vec3.specs.Vector.{finite_vector}
 use Rattle.robust.specs.Huber.{valid_huber, joined_of}
+use Rattle.sincos.specs.declared.Refusal.{Refusal as Measuring}
+use Rattle.sincos.specs.declared.Refusal.TheVariants as M
 use Rattle.wheel_odom.specs.declared.WheelOdomMeasurement.{WheelOdomMeasurement}
-use Rattle.wheel_odom.specs.Measurement.{blank, compose_of, said_outcome}
+use Rattle.wheel_odom.specs.Measurement.{blank, compose_of}
 use Rattle.wheel_odom.specs.Information.{information_of}
 use Rattle.wheel_factor.specs.declared.Extrinsic.{Extrinsic}
 use Rattle.wheel_factor.specs.declared.WheelOdomFactor.{WheelOdomFactor}
-use Rattle.wheel_factor.specs.declared.ComposedFactor.{ComposedFactor}
+use Rattle.wheel_factor.specs.declared.Refusal.{Refusal}
+use Rattle.wheel_factor.specs.declared.Refusal.TheVariants as R
 
 abbrev pub factor_of : ℕ → ℕ → WheelOdomMeasurement → Extrinsic → Extrinsic → Option Float → WheelOdomFactor
 factor_of from to m first last huber = record { from_idx = from; to_idx = to; measurement = m; t_cb_from = first; t_cb_to = last; huber_chi2 = huber }
@@ -55,8 +58,19 @@ abbrev pub by_measurement : WheelOdomFactor → WheelOdomFactor → Told WheelOd
 by_measurement a b t (gives u) = accepts (joined_factor a b t.value)
 by_measurement a b t (refused n values) = told (refused n values) blank_factor
 
-abbrev pub told_factor : ComposedFactor → Told WheelOdomFactor
-told_factor r = told (said_outcome r.outcome) r.factor
+-- 01, Refusal numbers: 10 NotJoined, 2 NonFinite, 8 AngleRange
+abbrev pub row_of : Refusal → Row
+row_of R.NotJoined = row 10
+row_of R.NonFinite = row 2
+row_of R.AngleRange = row 8
+
+-- what the measurements' refusal is as the factors'
+abbrev pub of_measurement : Measuring → Refusal
+of_measurement M.NonFinite = R.NonFinite
+of_measurement M.AngleRange = R.AngleRange
+
+abbrev pub told_factor : Result WheelOdomFactor Refusal → Told WheelOdomFactor
+told_factor r = told_result row_of blank_factor r
 
 -- "a factor's gives 10 first, when the indices do not meet", then the measurement's refusals
 unfoldable pub compose_factor_of : WheelOdomFactor → WheelOdomFactor → Told WheelOdomFactor

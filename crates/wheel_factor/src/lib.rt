@@ -2,12 +2,10 @@
 #![tactic(auto)]
 
 ghost use Rattle.std.specs.Prelude.{◌≡◌};
-ghost use Rattle.number.specs.Said.{told};
-ghost use Rattle.wheel_factor.specs.Factor.{blank_factor, compose_factor_of, factor_of, finite_extrinsic, valid_factor, is_given, told_factor};
-ghost use Rattle.wheel_odom.specs.Information.{said_information};
-ghost use Rattle.wheel_odom.specs.Measurement.{said_outcome};
+ghost use Rattle.wheel_factor.specs.Factor.{compose_factor_of, factor_of, finite_extrinsic, of_measurement, row_of, valid_factor, told_factor};
 
-use wheel_odom::{Information, Outcome, WheelOdomMeasurement};
+use number::Numbered;
+use wheel_odom::WheelOdomMeasurement;
 
 // Base-to-camera transform: X_cam = rotation · X_base + translation.
 #[derive(Clone, Copy)]
@@ -27,10 +25,36 @@ pub struct WheelOdomFactor {
     pub huber_chi2: Option<f64>,
 }
 
-#[derive(Clone, Copy)]
-pub struct ComposedFactor {
-    pub outcome: Outcome,
-    pub factor: WheelOdomFactor,
+// Why two factors are not joined.
+#[derive(Clone, Copy, Debug, PartialEq, Eq)]
+pub enum Refusal {
+    NotJoined,
+    NonFinite,
+    AngleRange,
+}
+
+impl Numbered for Refusal {
+    ghost row_of = { row_of };
+
+    fn number(self) -> u64 {
+        match self {
+            Refusal::NotJoined => 10,
+            Refusal::NonFinite => 2,
+            Refusal::AngleRange => 8,
+        }
+    }
+}
+
+// A factor is refused as its measurement is.
+impl From<sincos::Refusal> for Refusal {
+    ghost from_gives = { λ refusal result. result ≡ of_measurement refusal };
+
+    fn from(refusal: sincos::Refusal) -> Refusal {
+        match refusal {
+            sincos::Refusal::NonFinite => Refusal::NonFinite,
+            sincos::Refusal::AngleRange => Refusal::AngleRange,
+        }
+    }
 }
 
 impl Extrinsic {
@@ -42,14 +66,13 @@ impl Extrinsic {
     pub fn is_finite(self) -> bool
         ensures { result ≡ finite_extrinsic self }
     {
-        let rotation = self.rotation;
-        let translation = self.translation;
-        mat3::is_finite(rotation) & vec3::is_finite_vector(translation)
+        mat3::is_finite(self.rotation) & vec3::is_finite_vector(self.translation)
     }
 }
 
 impl WheelOdomFactor {
-    const BLANK: WheelOdomFactor = WheelOdomFactor {
+    // Stands where there is no factor.
+    pub const BLANK: WheelOdomFactor = WheelOdomFactor {
         from_idx: 0,
         to_idx: 0,
         measurement: WheelOdomMeasurement::BLANK,
@@ -79,78 +102,32 @@ impl WheelOdomFactor {
     }
 
     // Whether the factor can enter a solve.
+    #[tactic(auto, unfolding(crate::specs::Factor::valid_factor))]
     pub fn is_valid(self) -> bool
         ensures { result ≡ valid_factor self }
     {
-        let from = self.t_cb_from;
-        let to = self.t_cb_to;
-        let measurement = self.measurement;
-        let informed = measurement.information();
-        let outcome = informed.outcome;
         (self.from_idx != self.to_idx)
             & robust::is_valid(self.huber_chi2)
-            & from.is_finite()
-            & to.is_finite()
-            & is_given(outcome)
+            & self.t_cb_from.is_finite()
+            & self.t_cb_to.is_finite()
+            & self.measurement.information().is_ok()
     }
 
     // The factor from `self`'s start to `next`'s end, where `next` starts where `self` ends.
-    pub fn compose(self, next: WheelOdomFactor) -> ComposedFactor
+    #[tactic(auto, unfolding(crate::specs::Factor::compose_factor_of))]
+    pub fn compose(self, next: WheelOdomFactor) -> Result<WheelOdomFactor, Refusal>
         ensures { told_factor result ≡ compose_factor_of self next }
     {
         if self.to_idx != next.from_idx {
-            return refused(Outcome::NotJoined);
+            return Err(Refusal::NotJoined);
         }
-        let a = self.measurement;
-        let b = next.measurement;
-        let composed = a.compose(b);
-        let outcome = composed.outcome;
-        if !is_accepted(outcome) {
-            return refused(outcome);
-        }
-        let measurement = composed.measurement;
-        let huber_chi2 = robust::joined(self.huber_chi2, next.huber_chi2);
-        let t_cb_to = next.t_cb_to;
-        ComposedFactor {
-            outcome: Outcome::Accepted,
-            factor: WheelOdomFactor {
-                to_idx: next.to_idx,
-                measurement,
-                t_cb_to,
-                huber_chi2,
-                ..self
-            },
-        }
-    }
-}
-
-fn is_accepted(outcome: Outcome) -> bool
-    ensures { result ≡ is_given (said_outcome outcome) }
-{
-    match outcome {
-        Outcome::Accepted => true,
-        Outcome::NonFinite => false,
-        Outcome::AngleRange => false,
-        Outcome::NotJoined => false,
-    }
-}
-
-fn is_given(outcome: Information) -> bool
-    ensures { result ≡ is_given (said_information outcome) }
-{
-    match outcome {
-        Information::Given => true,
-        Information::NoInformation => false,
-        Information::AngleRange => false,
-        Information::NonFinite => false,
-    }
-}
-
-fn refused(outcome: Outcome) -> ComposedFactor
-    ensures { told_factor result ≡ told (said_outcome outcome) blank_factor }
-{
-    ComposedFactor {
-        outcome,
-        factor: WheelOdomFactor::BLANK,
+        let measurement = self.measurement.compose(next.measurement)?;
+        Ok(WheelOdomFactor {
+            to_idx: next.to_idx,
+            measurement,
+            t_cb_to: next.t_cb_to,
+            huber_chi2: robust::joined(self.huber_chi2, next.huber_chi2),
+            ..self
+        })
     }
 }

@@ -1,16 +1,15 @@
 -- 01, Information of wheel factors: the order of its checks, and the thirty-six numbers, column by column.
-use Rattle.std.specs.Prelude.{Bool, not, ◌&&◌, List, [], ◌∷◌, replicate, Float}
+use Rattle.std.specs.Prelude.{Bool, not, ◌&&◌, List, [], ◌∷◌, replicate, Float, Result}
 use Rattle.number.specs.Float.{◌when◌else◌, finite}
 use Rattle.number.specs.Constants.{zero as +0}
 use Rattle.number.specs.Fit.{finite_positive, inverse_square}
-use Rattle.number.specs.Said.{Said, gives, refusal, Told, told, accepts, refuses}
+use Rattle.number.specs.Said.{Row, row, Told, told_result, accepts, refuses}
 use Rattle.sincos.specs.Turn.{above_four}
 use Rattle.mat3.specs.Matrix.{entry, finite_matrix}
 use Rattle.planar.specs.Motion.{heading, finite_motion}
 use Rattle.planar_information.specs.Block.{invertible, planar_block}
-use Rattle.wheel_odom.specs.declared.Informed.{Informed}
-use Rattle.wheel_odom.specs.declared.Information.{Information}
-use Rattle.wheel_odom.specs.declared.Information.TheVariants as I
+use Rattle.wheel_odom.specs.declared.Refusal.{Refusal}
+use Rattle.wheel_odom.specs.declared.Refusal.TheVariants as R
 use Rattle.wheel_odom.specs.declared.WheelOdomMeasurement.{WheelOdomMeasurement}
 use Rattle.wheel_odom.specs.Measurement.{motion_of}
 
@@ -40,19 +39,18 @@ information_matrix m = spread (planar_block (motion_of m)) (inverse_square m.z_s
 abbrev pub finite_information : WheelOdomMeasurement → Bool
 finite_information m = finite_matrix (planar_block (motion_of m)) && finite (inverse_square m.z_sigma) && finite (inverse_square m.tilt_sigma)
 
--- 01, Refusal numbers: 9 NoInformation, 8 AngleRange, 2 NonFinite
-abbrev pub said_information : Information → Said (Unit {0})
-said_information I.Given = gives tt
-said_information I.NoInformation = refusal 9
-said_information I.AngleRange = refusal 8
-said_information I.NonFinite = refusal 2
-
-abbrev pub told_informed : Informed → Told (List Float)
-told_informed r = told (said_information r.outcome) r.matrix
-
 -- "no matrix"
 abbrev pub zeros36 : List Float
 zeros36 = replicate 36 +0
+
+-- 01, Refusal numbers: 9 NoInformation, 8 AngleRange, 2 NonFinite
+abbrev pub row_of : Refusal → Row
+row_of R.NoInformation = row 9
+row_of R.AngleRange = row 8
+row_of R.NonFinite = row 2
+
+abbrev pub told_informed : Result (List Float) Refusal → Told (List Float)
+told_informed r = told_result row_of zeros36 r
 
 -- "failing any gives 9. Then 8 for the heading, then 2 if an output is not finite (added)."
 unfoldable pub information_of : WheelOdomMeasurement → Told (List Float)

@@ -1,19 +1,18 @@
 -- 01, Information of wheel factors: the measurement, its default sigmas, its composition.
-use Rattle.std.specs.Prelude.{Bool, not, ◌&&◌, ◌||◌, List, Float}
+use Rattle.std.specs.Prelude.{Bool, not, ◌&&◌, ◌||◌, List, Float, Result}
 use Rattle.number.specs.Float.{◌⊕◌, ◌⊗◌, ◌when◌else◌, finite}
 use Rattle.number.specs.Constants.{c0·01}
 use Rattle.number.specs.Constants.{zero as +0}
 use Rattle.root.specs.Root.{sqrt_of}
-use Rattle.number.specs.Said.{Said, gives, refusal, Told, told, accepts, refuses}
+use Rattle.number.specs.Said.{Told, told_result, accepts, refuses}
 use Rattle.root.specs.Root.{or_nan}
+use Rattle.sincos.specs.declared.Refusal.{Refusal}
+use Rattle.sincos.specs.Refusals.{row_of}
 use Rattle.sincos.specs.Turn.{above_four}
 use Rattle.planar.specs.declared.PlanarMotion.{PlanarMotion}
 use Rattle.planar.specs.Motion.{heading, identity, finite_motion}
 use Rattle.planar.specs.Compose.{composed}
 use Rattle.wheel_odom.specs.declared.WheelOdomMeasurement.{WheelOdomMeasurement}
-use Rattle.wheel_odom.specs.declared.ComposedMeasurement.{ComposedMeasurement}
-use Rattle.wheel_odom.specs.declared.Outcome.{Outcome}
-use Rattle.wheel_odom.specs.declared.Outcome.TheVariants as O
 
 -- "Default sigmas of the type are 0.01 and 0.01."
 abbrev pub with_defaults : List Float → List Float → WheelOdomMeasurement
@@ -46,15 +45,8 @@ composed_measurement a b =
 unfoldable pub finite_measurement : WheelOdomMeasurement → Bool
 finite_measurement m = finite_motion (motion_of m) && finite m.z_sigma && finite m.tilt_sigma
 
--- 01, Refusal numbers: 2 NonFinite, 8 AngleRange, 10 NotJoined
-abbrev pub said_outcome : Outcome → Said (Unit {0})
-said_outcome O.Accepted = gives tt
-said_outcome O.NonFinite = refusal 2
-said_outcome O.AngleRange = refusal 8
-said_outcome O.NotJoined = refusal 10
-
-abbrev pub told_measurement : ComposedMeasurement → Told WheelOdomMeasurement
-told_measurement r = told (said_outcome r.outcome) r.measurement
+abbrev pub told_measurement : Result WheelOdomMeasurement Refusal → Told WheelOdomMeasurement
+told_measurement r = told_result row_of blank r
 
 -- "A measurement's composition gives the planar refusals, the sigmas counted only in the result's 2, not in the input's"
 unfoldable pub compose_of : WheelOdomMeasurement → WheelOdomMeasurement → Told WheelOdomMeasurement

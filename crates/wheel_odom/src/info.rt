@@ -1,53 +1,40 @@
 // The information of a measurement over the residual tangent [x, y, z, roll, pitch, yaw].
 ghost use Rattle.std.specs.Prelude.{◌≡◌};
-ghost use Rattle.number.specs.Said.{told};
-ghost use Rattle.wheel_odom.specs.Information.{has_information, information_of, said_information, spread as spread_of, told_informed, zeros36};
+ghost use Rattle.wheel_odom.specs.Information.{has_information, information_of, spread as spread_of, told_informed};
 
-use crate::{Information, Informed, WheelOdomMeasurement};
+use crate::{Refusal, WheelOdomMeasurement};
 
 impl WheelOdomMeasurement {
-    pub fn information(self) -> Informed
+    // Thirty-six numbers, column by column.
+    #[tactic(auto, unfolding(crate::specs::Information::information_of, crate::specs::Information::information_matrix))]
+    pub fn information(self) -> Result<[f64; 36], Refusal>
         ensures { told_informed result ≡ information_of self }
     {
         if !self.has_information() {
-            return refused(Information::NoInformation);
+            return Err(Refusal::NoInformation);
         }
         let motion = self.planar_motion();
-        let delta = motion.delta;
-        if sincos::is_above_four(delta[2]) {
-            return refused(Information::AngleRange);
+        if sincos::is_above_four(motion.delta[2]) {
+            return Err(Refusal::AngleRange);
         }
         let block = planar_information::planar_block(motion);
         let z = 1.0 / (self.z_sigma * self.z_sigma);
         let tilt = 1.0 / (self.tilt_sigma * self.tilt_sigma);
         if !(mat3::is_finite(block) & number::is_finite(z) & number::is_finite(tilt)) {
-            return refused(Information::NonFinite);
+            return Err(Refusal::NonFinite);
         }
-        Informed {
-            outcome: Information::Given,
-            matrix: spread(block, z, tilt),
-        }
+        Ok(spread(block, z, tilt))
     }
 
     // The checks of which failing any gives no information.
+    #[tactic(auto, unfolding(crate::specs::Information::has_information))]
     fn has_information(self) -> bool
         ensures { result ≡ has_information self }
     {
-        let motion = self.planar_motion();
-        let c = self.covariance;
         number::is_finite_positive(self.z_sigma)
             & number::is_finite_positive(self.tilt_sigma)
-            & motion.is_finite()
-            & planar_information::is_invertible(c)
-    }
-}
-
-fn refused(outcome: Information) -> Informed
-    ensures { told_informed result ≡ told (said_information outcome) zeros36 }
-{
-    Informed {
-        outcome,
-        matrix: [0.0; 36],
+            & self.planar_motion().is_finite()
+            & planar_information::is_invertible(self.covariance)
     }
 }
 

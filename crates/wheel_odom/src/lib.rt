@@ -1,8 +1,13 @@
 // The motion that a cart's wheels measured between two keyframes: its information, and the composing of two. From kornia's wheel_odom.rs.
 #![tactic(auto)]
 
+ghost use Rattle.std.specs.Prelude.{◌≡◌};
+ghost use Rattle.wheel_odom.specs.Information.{row_of};
+
 mod info;
 mod measurement;
+
+use number::Numbered;
 
 // (dx, dy, dθ) and its covariance, column by column; out-of-plane translation sigma in metres, roll and pitch sigma in radians.
 #[derive(Clone, Copy)]
@@ -13,33 +18,23 @@ pub struct WheelOdomMeasurement {
     pub tilt_sigma: f64,
 }
 
-#[derive(Clone, Copy)]
-pub enum Outcome {
-    Accepted,
-    NonFinite,
-    AngleRange,
-    // Of factors alone: the crate wheel_factor.
-    NotJoined,
-}
-
-#[derive(Clone, Copy)]
-pub struct ComposedMeasurement {
-    pub outcome: Outcome,
-    pub measurement: WheelOdomMeasurement,
-}
-
-#[derive(Clone, Copy)]
-pub enum Information {
-    Given,
+// Why a measurement has no information.
+#[derive(Clone, Copy, Debug, PartialEq, Eq)]
+pub enum Refusal {
     // The sigmas, the numbers or the covariance allow none.
     NoInformation,
     AngleRange,
     NonFinite,
 }
 
-// Thirty-six numbers, column by column.
-#[derive(Clone, Copy)]
-pub struct Informed {
-    pub outcome: Information,
-    pub matrix: [f64; 36],
+impl Numbered for Refusal {
+    ghost row_of = { row_of };
+
+    fn number(self) -> u64 {
+        match self {
+            Refusal::NoInformation => 9,
+            Refusal::AngleRange => 8,
+            Refusal::NonFinite => 2,
+        }
+    }
 }

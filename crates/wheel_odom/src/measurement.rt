@@ -1,10 +1,10 @@
 // Wheel-odometry motion of the base between two keyframes, lifted out of the plane by two stiff sigmas.
 ghost use Rattle.std.specs.Prelude.{◌≡◌};
-ghost use Rattle.number.specs.Said.{told};
-ghost use Rattle.wheel_odom.specs.Measurement.{blank, compose_of, composed_measurement, finite_measurement, joined_sigma, motion_of, of_motion, said_outcome, told_measurement, with_defaults, with_sigmas};
+ghost use Rattle.wheel_odom.specs.Measurement.{compose_of, composed_measurement, finite_measurement, joined_sigma, motion_of, of_motion, told_measurement, with_defaults, with_sigmas};
 
-use crate::{ComposedMeasurement, Outcome, WheelOdomMeasurement};
+use crate::WheelOdomMeasurement;
 use planar::PlanarMotion;
+use sincos::Refusal;
 
 impl WheelOdomMeasurement {
     // 1 cm and 0.01 rad: unmeasured, to be tuned on the cart.
@@ -42,16 +42,8 @@ impl WheelOdomMeasurement {
         }
     }
 
-    // A preintegrated motion with the default sigmas.
-    pub fn from_motion(motion: PlanarMotion) -> WheelOdomMeasurement
-        ensures { result ≡ of_motion motion }
-    {
-        let delta = motion.delta;
-        let covariance = motion.covariance;
-        WheelOdomMeasurement::new(delta, covariance)
-    }
-
     // The planar delta and its covariance.
+    #[tactic(auto, unfolding(crate::specs::Measurement::motion_of))]
     pub fn planar_motion(self) -> PlanarMotion
         ensures { result ≡ motion_of self }
     {
@@ -61,54 +53,26 @@ impl WheelOdomMeasurement {
     }
 
     // The motion `self` then `next`: the planar part composes, the out-of-plane sigmas add in quadrature.
-    pub fn compose(self, next: WheelOdomMeasurement) -> ComposedMeasurement
+    #[tactic(auto, unfolding(crate::specs::Measurement::compose_of, planar::specs::Compose::compose_of, crate::specs::Measurement::composed_measurement, crate::specs::Measurement::finite_measurement, crate::specs::Measurement::motion_of))]
+    pub fn compose(self, next: WheelOdomMeasurement) -> Result<WheelOdomMeasurement, Refusal>
         ensures { told_measurement result ≡ compose_of self next }
     {
-        let a = self.planar_motion();
-        let b = next.planar_motion();
-        if !(a.is_finite() & b.is_finite()) {
-            return refused(Outcome::NonFinite);
-        }
-        let d = a.delta;
-        let e = b.delta;
-        if sincos::is_above_four(d[2]) | sincos::is_above_four(e[2]) {
-            return refused(Outcome::AngleRange);
-        }
-        let measurement = self.composed(next);
-        if !measurement.is_finite() {
-            return refused(Outcome::NonFinite);
-        }
-        ComposedMeasurement {
-            outcome: Outcome::Accepted,
-            measurement,
-        }
-    }
-
-    fn composed(self, next: WheelOdomMeasurement) -> WheelOdomMeasurement
-        ensures { result ≡ composed_measurement self next }
-    {
-        let a = self.planar_motion();
-        let motion = planar::formula::composed(a, next.planar_motion());
+        let motion = self.planar_motion().compose(next.planar_motion())?;
         let z = joined_sigma(self.z_sigma, next.z_sigma);
         let tilt = joined_sigma(self.tilt_sigma, next.tilt_sigma);
-        let planar = WheelOdomMeasurement::from_motion(motion);
-        planar.with_out_of_plane_sigmas(z, tilt)
-    }
-
-    fn is_finite(self) -> bool
-        ensures { result ≡ finite_measurement self }
-    {
-        let motion = self.planar_motion();
-        motion.is_finite() & number::is_finite(self.z_sigma) & number::is_finite(self.tilt_sigma)
+        if !(number::is_finite(z) & number::is_finite(tilt)) {
+            return Err(Refusal::NonFinite);
+        }
+        Ok(WheelOdomMeasurement::from(motion).with_out_of_plane_sigmas(z, tilt))
     }
 }
 
-fn refused(outcome: Outcome) -> ComposedMeasurement
-    ensures { told_measurement result ≡ told (said_outcome outcome) blank }
-{
-    ComposedMeasurement {
-        outcome,
-        measurement: WheelOdomMeasurement::BLANK,
+// A preintegrated motion with the default sigmas.
+impl From<PlanarMotion> for WheelOdomMeasurement {
+    ghost from_gives = { λ motion measurement. measurement ≡ of_motion motion };
+
+    fn from(motion: PlanarMotion) -> WheelOdomMeasurement {
+        WheelOdomMeasurement::new(motion.delta, motion.covariance)
     }
 }
 
