@@ -5,11 +5,11 @@ ghost use Rattle.number.specs.Float.{finite};
 ghost use Rattle.number.specs.Float.{size as size_of};
 ghost use Rattle.number.specs.Float.{larger as larger_of};
 
-// Neither an infinity nor a NaN: these less themselves are NaN, and a number less itself is 0.
+// Neither an infinity nor a NaN.
 pub fn is_finite(x: f64) -> bool
     ensures { result ≡ finite x }
 {
-    x - x == 0.0
+    x.is_finite()
 }
 
 // Finite and above 0: what a length or a sigma has to be.
@@ -30,16 +30,11 @@ pub fn is_finite_not_negative(x: f64) -> bool
 pub fn size(x: f64) -> f64
     ensures { result ≡ size_of x }
 {
-    if x < 0.0 {
-        return -x;
-    }
-    if x == 0.0 {
-        return 0.0;
-    }
-    x
+    x.abs()
 }
 
-// The larger of two; a NaN is passed over, and of two that are equal the first is taken.
+// The larger of two; a NaN is passed over, and of two that are equal the first is taken. By hand, since std's `max` says of equal ones only that it gives
+// either, and 01 tells the zeros apart.
 pub fn larger(a: f64, b: f64) -> f64
     ensures { result ≡ larger_of a b }
 {

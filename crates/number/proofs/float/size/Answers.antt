@@ -1,13 +1,14 @@
--- `number::float::size` meets its contract: what is below zero is negated, a zero is +0, and anything else is its own size. Assumes nothing.
-use Rattle.std.proofs.Common.{rules}
-use Rattle.number.proofs.float.Sizes.{size_below, size_zero, size_otherwise}
+use Rattle.std.proofs.Common.{◌≡◌, false, refl, ◌∙◌}
+use Rattle.std.specs.Float.{float_with_sign}
+use lib.Ieee.{Float, nan, inf, fin}
+use Rattle.number.specs.Float.{size}
 use Rattle.number.proofs.float.size.Goals as goal
 
-pub returns-then-x : goal.returns-then-x
-returns-then-x c = size_below c.args.x c.if-x.true
-
-pub returns-then-x-2 : goal.returns-then-x-2
-returns-then-x-2 c = size_zero c.args.x (search rules) c.if-x-2.true
+as_std : (x : Float) → float_with_sign false x ≡ size x
+unfolding float_with_sign size
+as_std nan = refl
+as_std (inf s) = refl
+as_std (fin s m e) = refl
 
 pub returns : goal.returns
-returns c = size_otherwise c.args.x c.if-x.false c.if-x-2.false
+returns c = c.abs.ensures.value ∙ as_std c.args.x
