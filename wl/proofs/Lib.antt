@@ -1,5 +1,0 @@
--- Laws that belong to no one function.
-pub mod Sound
-pub mod Cases
-pub mod Faults
-pub mod Statements

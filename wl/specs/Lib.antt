@@ -1,4 +1,0 @@
--- 01, The log: its layout, and what breaks it.
-pub mod Layout
-pub mod Faults
-pub mod Statements
