@@ -6,12 +6,11 @@ use crate::{Arc, Coefficients};
 use planar::PlanarMotion;
 
 // The motion of holding the twist increment (x, y, w), whose covariance is q.
+#[tactic(auto, unfolding(crate::specs::Arc::increment_of))]
 pub fn from_twist_increment(x: f64, y: f64, w: f64, q: [f64; 9]) -> PlanarMotion
     ensures { result ≡ increment_of x y w q }
 {
-    let arc = se2_exp(x, y, w);
-    let delta = arc.delta;
-    let jacobian = arc.jacobian;
+    let Arc { delta, jacobian } = se2_exp(x, y, w);
     PlanarMotion {
         delta,
         covariance: planar::formula::carried(jacobian, q),
@@ -19,14 +18,11 @@ pub fn from_twist_increment(x: f64, y: f64, w: f64, q: [f64; 9]) -> PlanarMotion
 }
 
 // The SE(2) exponential of (x, y, w) as (x, y, θ), and its Jacobian.
+#[tactic(auto, unfolding(crate::specs::Arc::se2_exp))]
 fn se2_exp(x: f64, y: f64, w: f64) -> Arc
     ensures { result ≡ se2_exp x y w }
 {
-    let k = coefficients_of(w);
-    let a = k.a;
-    let b = k.b;
-    let da = k.da;
-    let db = k.db;
+    let Coefficients { a, b, da, db } = coefficients_of(w);
     Arc {
         delta: [a * x - b * y, b * x + a * y, w],
         jacobian: [a, b, 0.0, -b, a, 0.0, da * x - db * y, db * x + da * y, 1.0],
@@ -34,6 +30,7 @@ fn se2_exp(x: f64, y: f64, w: f64) -> Arc
 }
 
 // Below 1e-3 the closed forms cancel catastrophically, so the Taylor series stand in.
+#[tactic(auto, unfolding(crate::specs::Arc::coefficients_of))]
 fn coefficients_of(w: f64) -> Coefficients
     ensures { result ≡ coefficients_of w }
 {
@@ -43,6 +40,7 @@ fn coefficients_of(w: f64) -> Coefficients
     closed_forms(w)
 }
 
+#[tactic(auto, unfolding(crate::specs::Arc::series))]
 fn series(w: f64) -> Coefficients
     ensures { result ≡ series_of w }
 {
@@ -55,18 +53,17 @@ fn series(w: f64) -> Coefficients
     }
 }
 
+#[tactic(auto, unfolding(crate::specs::Arc::closed_forms))]
 fn closed_forms(w: f64) -> Coefficients
     ensures { result ≡ closed_forms w }
 {
     let v = sincos::formula::turn_of(w);
-    let s = v.sin;
-    let c = v.cos;
-    let a = s / w;
-    let b = (1.0 - c) / w;
+    let a = v.sin / w;
+    let b = (1.0 - v.cos) / w;
     Coefficients {
         a,
         b,
-        da: (c - a) / w,
-        db: (s - b) / w,
+        da: (v.cos - a) / w,
+        db: (v.sin - b) / w,
     }
 }

@@ -11,6 +11,7 @@ use drive::{DifferentialDrive, WheelMeasurement};
 use planar::PlanarMotion;
 use planar::formula::composed;
 
+#[tactic(auto, unfolding(crate::specs::Interval::interval_of))]
 pub fn interval_of(
     drive: DifferentialDrive,
     per_tick: f64,
@@ -19,10 +20,8 @@ pub fn interval_of(
 ) -> Interval
     ensures { result ≡ interval_of drive per_tick last m }
 {
-    let from = last.reading;
-    let to = m.reading;
     let dt = m.timestamp - last.timestamp;
-    let rates = rates_between(drive, per_tick, from, to, dt);
+    let rates = rates_between(drive, per_tick, last.reading, m.reading, dt);
     let twist = twist_of(drive, rates);
     let cut = number::halvings(ratio(dt, twist.wz));
     let substep = dt / cut.parts;
@@ -36,6 +35,7 @@ pub fn interval_of(
 }
 
 // How many times longer the interval is than a substep may be, in time or in angle.
+#[tactic(auto, unfolding(crate::specs::Interval::ratio_of))]
 fn ratio(dt: f64, wz: f64) -> f64
     ensures { result ≡ ratio_of dt wz }
 {
@@ -47,6 +47,7 @@ fn ratio(dt: f64, wz: f64) -> f64
 
 // The motion over all substeps. Mapping a whole interval's noise through one exponential Jacobian would treat it as a constant perturbation and lose
 // the variance that white noise builds up along a turn; the two halves' noise is independent.
+#[tactic(auto, unfolding(crate::specs::Interval::interval_motion))]
 fn interval_motion(rate_noise: [f64; 9], i: Interval) -> PlanarMotion
     ensures { result ≡ interval_motion rate_noise i }
 {
@@ -64,20 +65,18 @@ fn doubled(p: PlanarMotion, k: u32) -> PlanarMotion
     ensures { result ≡ doubled_of k p }
 {
     let mut motion = p;
-    let mut left = k;
-    while 0 < left {
+    for _ in 0..k {
         motion = composed(motion, motion);
-        left -= 1;
     }
     motion
 }
 
 // What is accumulated with one interval more.
+#[tactic(auto, unfolding(crate::specs::Accumulated::advanced))]
 pub fn advanced(a: Accumulated, rate_noise: [f64; 9], i: Interval) -> Accumulated
     ensures { result ≡ advanced_of a rate_noise i }
 {
-    let stored = a.motion;
-    let motion = composed(stored, interval_motion(rate_noise, i));
+    let motion = composed(a.motion, interval_motion(rate_noise, i));
     let dt = a.dt + i.dt;
     Accumulated { motion, dt }
 }

@@ -39,10 +39,10 @@ impl Accumulated {
         dt: 0.0,
     };
 
+    #[tactic(auto, unfolding(crate::specs::Accumulated::finite_accumulated))]
     pub fn is_finite(self) -> bool
         ensures { result ≡ finite_accumulated self }
     {
-        let motion = self.motion;
-        motion.is_finite() & number::is_finite(self.dt)
+        self.motion.is_finite() & number::is_finite(self.dt)
     }
 }

@@ -18,12 +18,13 @@ pub struct KeptValues {
 impl KeptValues {
     // Stands where there are none.
     pub const BLANK: KeptValues = KeptValues {
-        rate_noise: [0.0, 0.0, 0.0, 0.0, 0.0, 0.0, 0.0, 0.0, 0.0],
+        rate_noise: [0.0; 9],
         radians_per_tick: 0.0,
     };
 }
 
 // The values worked out from drive and noise. Those can be fit and a value be infinite or NaN; a NaN is stored as 7ff8000000000000.
+#[tactic(auto, unfolding(crate::specs::Kept::kept_of))]
 pub fn kept_of(drive: DifferentialDrive, noise: WheelNoise) -> KeptValues
     ensures { result ≡ kept_of drive noise }
 {
@@ -34,6 +35,7 @@ pub fn kept_of(drive: DifferentialDrive, noise: WheelNoise) -> KeptValues
 }
 
 // J · Jᵀ · σ², and the side-slip.
+#[tactic(auto, unfolding(crate::specs::Kept::rate_noise))]
 fn rate_noise(drive: DifferentialDrive, noise: WheelNoise) -> [f64; 9]
     ensures { result ≡ rate_noise drive noise }
 {
@@ -48,9 +50,9 @@ fn rate_noise(drive: DifferentialDrive, noise: WheelNoise) -> [f64; 9]
 fn beside_zero(c: TwistColumns) -> [f64; 9]
     ensures { result ≡ beside_zero c }
 {
-    let l = c.left;
-    let r = c.right;
-    [l.vx, l.vy, l.wz, r.vx, r.vy, r.wz, 0.0, 0.0, 0.0]
+    [
+        c.left.vx, c.left.vy, c.left.wz, c.right.vx, c.right.vy, c.right.wz, 0.0, 0.0, 0.0,
+    ]
 }
 
 // ---- one NaN in memory too. To the logic each of these gives back what it is given, since there all NaNs are one. A processor has many: one that it makes
@@ -66,10 +68,8 @@ fn settled_noise(q: [f64; 9]) -> [f64; 9]
     ensures { result ≡ q }
 {
     let mut s = q;
-    let mut i = 0;
-    while i < 9 {
-        s[i] = settled(s[i]);
-        i += 1;
+    for x in &mut s {
+        *x = settled(*x);
     }
     s
 }

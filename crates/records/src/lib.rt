@@ -51,7 +51,7 @@ pub fn is_sound_reading(s: &[u8]) -> bool
 fn is_zero_or_one(b: u64) -> bool
     ensures { result ≡ zero_or_one b }
 {
-    (b == 0) | (b == 1)
+    matches!(b, 0 | 1)
 }
 
 // The drive of the parameters at the front.

@@ -2,6 +2,7 @@
 pub mod Steps
 pub mod Chains
 pub mod Lists
+pub mod Front
 mod Invariant
 pub mod SoFar
 pub mod Theorem
