@@ -24,8 +24,8 @@ pub extern "C" fn kept_values(parameters: &[u8], events: &[u8], out: &mut [f64])
 fn store(kept: KeptValues, out: &mut [f64])
     ensures { out.new ≡ tabulated (length out.old) (kept_number kept) }
 {
-    for i in 0..out.len() {
-        out[i] = number_of(kept, i);
+    for (i, x) in out.iter_mut().enumerate() {
+        *x = number_of(kept, i);
     }
 }
 
@@ -33,9 +33,8 @@ fn store(kept: KeptValues, out: &mut [f64])
 fn number_of(kept: KeptValues, i: usize) -> f64
     ensures { result ≡ kept_number kept i }
 {
-    let noise = kept.rate_noise;
     if i < 9 {
-        noise[i]
+        kept.rate_noise[i]
     } else {
         kept.radians_per_tick
     }

@@ -33,96 +33,63 @@ use planar::PlanarMotion;
 use std::io;
 use wheel::{Settings, WheelPreintegration};
 
-// A proved loop has to end, and nothing says that the input does. So the loop has a number of turns that no run uses up.
 fn main(rt: HostRuntime) -> io::Result<()> {
     let mut state = WheelPreintegration::BLANK;
-    for _ in 0..u64::MAX {
-        let kind = cases::read_word(&rt);
-        if kind == 0 {
-            return Ok(());
-        }
+    for kind in cases::kinds(&rt) {
         cases::print_word(&rt, kind)?;
-        state = after_record(&rt, kind, state)?;
+        call(&rt, kind, &mut state)?;
         print_after(&rt, kind, state)?;
         cases::end_line(&rt)?;
     }
     Ok(())
 }
 
-fn after_record(
-    rt: &(impl Input + Print),
-    kind: u64,
-    before: WheelPreintegration,
-) -> io::Result<WheelPreintegration> {
-    let call = kind % 100;
-    match call {
-        2 | 3 => begun(rt, call),
-        4 | 5 => stepped(rt, call, before),
-        6 => restarted(rt, before),
-        7 => Ok(read_state(rt, kind)),
-        12 => changed(rt, before),
-        13 => ran(rt, before),
-        _ => Ok(before),
+// ---- the calls that change the state
+
+fn call(rt: &(impl Input + Print), kind: u64, state: &mut WheelPreintegration) -> io::Result<()> {
+    match kind % 100 {
+        2 | 3 => begin(rt, kind % 100, state),
+        4 | 5 => print_outcome(rt, state.integrate(read_measurement(rt, kind % 100))),
+        6 => {
+            state.restart();
+            cases::print_word(rt, 0)
+        }
+        7 => {
+            *state = read_state(rt, kind);
+            Ok(())
+        }
+        12 => {
+            let drive = read_drive(rt);
+            print_outcome(rt, state.change(drive, read_noise(rt, 2)))
+        }
+        13 => run(rt, state),
+        _ => Ok(()),
     }
 }
 
-fn print_after(rt: &(impl Input + Print), kind: u64, state: WheelPreintegration) -> io::Result<()> {
-    let call = kind % 100;
-    let settings = state.settings;
-    if (call < 2) | (7 < call) & (call < 12) {
-        return ask(rt, kind, settings.drive, state.motion());
-    }
-    print_state(rt, kind, state)
-}
-
-// ---- the calls that give a state
-
-fn begun(rt: &(impl Input + Print), call: u64) -> io::Result<WheelPreintegration> {
+fn begin(rt: &(impl Input + Print), kind: u64, state: &mut WheelPreintegration) -> io::Result<()> {
     let drive = read_drive(rt);
-    let made = WheelPreintegration::new(drive, read_noise(rt, call));
-    print_outcome(rt, made.map(|_| ()))?;
-    Ok(made.unwrap_or(WheelPreintegration::BLANK))
+    let made = WheelPreintegration::new(drive, read_noise(rt, kind));
+    *state = made.unwrap_or(WheelPreintegration::BLANK);
+    print_outcome(rt, made.map(|_| ()))
 }
 
-fn stepped(
-    rt: &(impl Input + Print),
-    call: u64,
-    before: WheelPreintegration,
-) -> io::Result<WheelPreintegration> {
-    let mut state = before;
-    print_outcome(rt, state.integrate(read_measurement(rt, call)))?;
-    Ok(state)
-}
-
-fn restarted(
-    rt: &(impl Input + Print),
-    before: WheelPreintegration,
-) -> io::Result<WheelPreintegration> {
-    let mut state = before;
-    state.restart();
-    cases::print_word(rt, 0)?;
-    Ok(state)
-}
-
-fn changed(
-    rt: &(impl Input + Print),
-    before: WheelPreintegration,
-) -> io::Result<WheelPreintegration> {
-    let drive = read_drive(rt);
-    let mut state = before;
-    print_outcome(rt, state.change(drive, read_noise(rt, 2)))?;
-    Ok(state)
-}
-
-fn ran(rt: &(impl Input + Print), before: WheelPreintegration) -> io::Result<WheelPreintegration> {
+fn run(rt: &(impl Input + Print), state: &mut WheelPreintegration) -> io::Result<()> {
     let mut events = [0u8; 520];
     cases::read_bytes(rt, &mut events);
-    let ran = runs::run(before, &events);
-    cases::print_word(rt, ran.accepted as u64)?;
-    Ok(ran.state)
+    let ran = runs::run(*state, &events);
+    *state = ran.state;
+    cases::print_word(rt, ran.accepted as u64)
 }
 
-// ---- what is asked, and leaves the state
+// ---- what a line has behind it: the state, or what is asked and leaves it
+
+fn print_after(rt: &(impl Input + Print), kind: u64, state: WheelPreintegration) -> io::Result<()> {
+    match kind % 100 {
+        0 | 1 | 8..=11 => ask(rt, kind, state.settings.drive, state.motion()),
+        _ => print_state(rt, kind, state),
+    }
+}
 
 fn ask(
     rt: &(impl Input + Print),
@@ -303,14 +270,11 @@ fn print_refusal(rt: &impl Print, why: Refusal) -> io::Result<()> {
 }
 
 fn print_state(rt: &(impl Input + Print), kind: u64, state: WheelPreintegration) -> io::Result<()> {
-    let settings = state.settings;
-    let last = state.last;
-    let kept = state.kept;
-    print_settings(rt, settings)?;
-    print_kept(rt, kind, kept)?;
+    print_settings(rt, state.settings)?;
+    print_kept(rt, kind, state.kept)?;
     print_motion(rt, kind % 200, state.motion())?;
     cases::print_numbers(rt, &[state.dt()])?;
-    print_last(rt, last)
+    print_last(rt, state.last)
 }
 
 fn print_settings(rt: &impl Print, settings: Settings) -> io::Result<()> {
@@ -330,20 +294,17 @@ fn print_settings(rt: &impl Print, settings: Settings) -> io::Result<()> {
 }
 
 fn print_kept(rt: &impl Print, kind: u64, kept: KeptValues) -> io::Result<()> {
-    let rate_noise = kept.rate_noise;
     if 200 <= kind {
-        cases::print_numbers(rt, &rate_noise)?;
+        cases::print_numbers(rt, &kept.rate_noise)?;
         cases::print_numbers(rt, &[kept.radians_per_tick])?;
     }
     Ok(())
 }
 
 fn print_motion(rt: &(impl Input + Print), kind: u64, motion: PlanarMotion) -> io::Result<()> {
-    let d = motion.delta;
-    let covariance = motion.covariance;
-    cases::print_near(rt, kind, &[d[0], d[1]])?;
-    cases::print_near(rt, kind, &[d[2]])?;
-    cases::print_near(rt, kind, &covariance)
+    cases::print_near(rt, kind, &motion.delta[..2])?;
+    cases::print_near(rt, kind, &motion.delta[2..])?;
+    cases::print_near(rt, kind, &motion.covariance)
 }
 
 fn print_last(rt: &impl Print, last: Option<WheelMeasurement>) -> io::Result<()> {
@@ -354,8 +315,7 @@ fn print_last(rt: &impl Print, last: Option<WheelMeasurement>) -> io::Result<()>
 }
 
 fn print_measurement(rt: &impl Print, m: WheelMeasurement) -> io::Result<()> {
-    let reading = m.reading;
-    match reading {
+    match m.reading {
         Reading::Ticks(left, right) => {
             print_stamp(rt, 4, m)?;
             cases::print_word(rt, number::tick::bits_of(left))?;
