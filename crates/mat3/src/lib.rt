@@ -1,8 +1,8 @@
-// 3×3 matrices of f64: nine numbers by value, column by column, as the Rust's `Mat3F64` stores them. What is done column by column is left to the
-// functions on three numbers: that keeps the proofs short.
+// 3×3 matrices of f64: nine numbers by value, column by column, as the Rust's `Mat3F64` stores them. In the names of locals `m12` is what stands in row 1 and
+// column 2.
 #![tactic(auto)]
 
-ghost use Rattle.std.specs.Prelude.{◌≡◌};
+ghost use Rattle.std.specs.Prelude.{◌≡◌, ◌∷◌, []};
 ghost use Rattle.mat3.specs.Matrix.{column as column_of, columns as columns_of, diagonal as diagonal_of, difference as difference_of, finite_matrix, hat as hat_of, identity as identity_of, product as product_of, scaled as scaled_of, sum as sum_of, transform as transform_of, transpose as transpose_of, yaw as yaw_of, zeros as zeros_of};
 
 // 0 everywhere.
@@ -23,10 +23,11 @@ pub fn identity() -> [f64; 9]
 pub fn product(a: [f64; 9], b: [f64; 9]) -> [f64; 9]
     ensures { result ≡ product_of a b }
 {
+    let [first, second, third] = columns(b);
     from_columns(
-        transform(a, first_column(b)),
-        transform(a, second_column(b)),
-        transform(a, third_column(b)),
+        transform(a, first),
+        transform(a, second),
+        transform(a, third),
     )
 }
 
@@ -34,18 +35,8 @@ pub fn product(a: [f64; 9], b: [f64; 9]) -> [f64; 9]
 pub fn transform(a: [f64; 9], v: [f64; 3]) -> [f64; 3]
     ensures { result ≡ transform_of a v }
 {
-    let a00 = a[0];
-    let a10 = a[1];
-    let a20 = a[2];
-    let a01 = a[3];
-    let a11 = a[4];
-    let a21 = a[5];
-    let a02 = a[6];
-    let a12 = a[7];
-    let a22 = a[8];
-    let v0 = v[0];
-    let v1 = v[1];
-    let v2 = v[2];
+    let [a00, a10, a20, a01, a11, a21, a02, a12, a22] = a;
+    let [v0, v1, v2] = v;
     [
         a00 * v0 + a01 * v1 + a02 * v2,
         a10 * v0 + a11 * v1 + a12 * v2,
@@ -57,40 +48,29 @@ pub fn transform(a: [f64; 9], v: [f64; 3]) -> [f64; 3]
 pub fn transpose(a: [f64; 9]) -> [f64; 9]
     ensures { result ≡ transpose_of a }
 {
-    [a[0], a[3], a[6], a[1], a[4], a[7], a[2], a[5], a[8]]
+    let [a00, a10, a20, a01, a11, a21, a02, a12, a22] = a;
+    [a00, a01, a02, a10, a11, a12, a20, a21, a22]
 }
 
 // The sum, entry by entry.
 pub fn sum(a: [f64; 9], b: [f64; 9]) -> [f64; 9]
     ensures { result ≡ sum_of a b }
 {
-    from_columns(
-        vec3::vector_sum(first_column(a), first_column(b)),
-        vec3::vector_sum(second_column(a), second_column(b)),
-        vec3::vector_sum(third_column(a), third_column(b)),
-    )
+    std::array::from_fn(|n| a[n] + b[n])
 }
 
 // The difference, entry by entry.
 pub fn difference(a: [f64; 9], b: [f64; 9]) -> [f64; 9]
     ensures { result ≡ difference_of a b }
 {
-    from_columns(
-        vec3::vector_difference(first_column(a), first_column(b)),
-        vec3::vector_difference(second_column(a), second_column(b)),
-        vec3::vector_difference(third_column(a), third_column(b)),
-    )
+    std::array::from_fn(|n| a[n] - b[n])
 }
 
 // Every entry times s.
 pub fn scaled(a: [f64; 9], s: f64) -> [f64; 9]
     ensures { result ≡ scaled_of a s }
 {
-    from_columns(
-        vec3::vector_scaled(first_column(a), s),
-        vec3::vector_scaled(second_column(a), s),
-        vec3::vector_scaled(third_column(a), s),
-    )
+    std::array::from_fn(|n| a[n] * s)
 }
 
 // a, b, c on the diagonal, and 0 elsewhere.
@@ -114,25 +94,12 @@ pub fn yaw(s: f64, c: f64) -> [f64; 9]
     [c, s, 0.0, -s, c, 0.0, 0.0, 0.0, 1.0]
 }
 
-// The first column of a matrix.
-pub fn first_column(m: [f64; 9]) -> [f64; 3]
-    ensures { result ≡ column_of m 0 }
+// The three columns of a matrix.
+pub fn columns(m: [f64; 9]) -> [[f64; 3]; 3]
+    ensures { result ≡ column_of m 0 ∷ column_of m 1 ∷ column_of m 2 ∷ [] }
 {
-    [m[0], m[1], m[2]]
-}
-
-// The second column of a matrix.
-pub fn second_column(m: [f64; 9]) -> [f64; 3]
-    ensures { result ≡ column_of m 1 }
-{
-    [m[3], m[4], m[5]]
-}
-
-// The third column of a matrix.
-fn third_column(m: [f64; 9]) -> [f64; 3]
-    ensures { result ≡ column_of m 2 }
-{
-    [m[6], m[7], m[8]]
+    let [m00, m10, m20, m01, m11, m21, m02, m12, m22] = m;
+    [[m00, m10, m20], [m01, m11, m21], [m02, m12, m22]]
 }
 
 // The matrix of three columns.
@@ -146,7 +113,6 @@ pub fn from_columns(a: [f64; 3], b: [f64; 3], c: [f64; 3]) -> [f64; 9]
 pub fn is_finite(m: [f64; 9]) -> bool
     ensures { result ≡ finite_matrix m }
 {
-    vec3::is_finite_vector(first_column(m))
-        & vec3::is_finite_vector(second_column(m))
-        & vec3::is_finite_vector(third_column(m))
+    let [first, second, third] = columns(m);
+    vec3::is_finite_vector(first) & vec3::is_finite_vector(second) & vec3::is_finite_vector(third)
 }

@@ -2,16 +2,28 @@
 // Arrays that are only read are lent and a result is returned by value, so that no matrix is copied to be read. Every size is a constant, so that no division is left to be done at run time.
 #![tactic(auto)]
 
-ghost use Rattle.std.specs.Prelude.{◌≡◌};
+ghost use Rattle.std.specs.Prelude.{◌≡◌, ◌*◌};
 ghost use Rattle.mat9.specs.Matrix.{all_finite, blocks, diagonal6, diagonal_raised, finite_diagonal, sum as sum_of};
 
 // a + b.
 pub fn mat9_add(a: &[f64; 81], b: &[f64; 81]) -> [f64; 81]
     ensures { result ≡ sum_of 9 9 a.now b.now }
 {
-    let mut out = [0.0; 81];
-    for n in 0..81 {
-        out[n] = a[n] + b[n];
+    std::array::from_fn(|n| a[n] + b[n])
+}
+
+// Three rows of so many 3×3 matrices, as they are printed.
+fn from_blocks<const ACROSS: usize, const PARTS: usize, const N: usize>(
+    parts: [[f64; 9]; PARTS],
+) -> [f64; N]
+    requires { (PARTS ≡ 3 * ACROSS) × (N ≡ 9 * (3 * ACROSS)) }
+    ensures { result ≡ blocks 3 ACROSS parts.entry }
+{
+    let mut out = [0.0; N];
+    for c in 0..3 * ACROSS {
+        for r in 0..9 {
+            out[r + c * 9] = parts[r / 3 * ACROSS + c / 3][r % 3 + 3 * (c % 3)];
+        }
     }
     out
 }
@@ -20,29 +32,18 @@ pub fn mat9_add(a: &[f64; 81], b: &[f64; 81]) -> [f64; 81]
 pub fn block3x3_to_9x9(parts: [[f64; 9]; 9]) -> [f64; 81]
     ensures { result ≡ blocks 3 3 parts }
 {
-    let mut out = [0.0; 81];
-    for c in 0..9 {
-        for r in 0..9 {
-            out[r + c * 9] = parts[r / 3 * 3 + c / 3][r % 3 + 3 * (c % 3)];
-        }
-    }
-    out
+    from_blocks::<3, 9, 81>(parts)
 }
 
 // Three rows of two 3×3 matrices, as they are printed.
 pub fn block3x2_to_9x6(parts: [[f64; 9]; 6]) -> [f64; 54]
     ensures { result ≡ blocks 3 2 parts }
 {
-    let mut out = [0.0; 54];
-    for c in 0..6 {
-        for r in 0..9 {
-            out[r + c * 9] = parts[r / 3 * 2 + c / 3][r % 3 + 3 * (c % 3)];
-        }
-    }
-    out
+    from_blocks::<2, 6, 54>(parts)
 }
 
 // a three times and then b three times on the diagonal, and 0 elsewhere.
+#[tactic(auto, unfolding(crate::specs::Matrix::diagonal6, crate::specs::Matrix::matrix, number::specs::Tabulated::tabulated))]
 pub fn diag_6x6(a: f64, b: f64) -> [f64; 36]
     ensures { result ≡ diagonal6 a b }
 {
@@ -74,14 +75,11 @@ pub fn with_raised_diagonal(m: [f64; 36], a: f64, b: f64) -> [f64; 36]
 pub fn all_finite(m: &[f64]) -> bool
     ensures { result ≡ all_finite m.now }
 {
-    let mut yes = true;
-    for n in 0..m.len() {
-        yes = yes & number::is_finite(m[n]);
-    }
-    yes
+    m.iter().all(|x| number::is_finite(*x))
 }
 
 // No number on the diagonal of m is an infinity or a NaN.
+#[tactic(auto, unfolding(crate::specs::Matrix::finite_diagonal))]
 pub fn is_finite_diagonal(m: [f64; 36]) -> bool
     ensures { result ≡ finite_diagonal m }
 {

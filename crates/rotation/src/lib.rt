@@ -30,12 +30,10 @@ pub fn increment_of(v: [f64; 3]) -> Increment
     let k = coefficients_of(square, angle);
     let h = hat_of(v);
     let h2 = mat3::product(h, h);
-    let exp = exp_by(k, h, h2);
-    let jacobian = jacobian_by(k, h, h2);
     Increment {
         angle,
-        exp,
-        jacobian,
+        exp: exp_by(k, h, h2),
+        jacobian: jacobian_by(k, h, h2),
     }
 }
 
@@ -66,13 +64,11 @@ fn series_of(square: f64) -> Coefficients
 fn closed_forms(square: f64, angle: f64) -> Coefficients
     ensures { result ≡ closed_forms square angle }
 {
-    let v = sincos::formula::turn_of(angle);
-    let s = v.sin;
-    let c = v.cos;
+    let turn = sincos::formula::turn_of(angle);
     Coefficients {
-        a: s / angle,
-        b: (1.0 - c) / square,
-        c: (angle - s) / (square * angle),
+        a: turn.sin / angle,
+        b: (1.0 - turn.cos) / square,
+        c: (angle - turn.sin) / (square * angle),
     }
 }
 
@@ -110,8 +106,9 @@ fn jacobian_by(k: Coefficients, h: [f64; 9], h2: [f64; 9]) -> [f64; 9]
 pub fn normalized(r: [f64; 9]) -> [f64; 9]
     ensures { result ≡ normalized_of r }
 {
-    let e0 = unit(mat3::first_column(r));
-    let e1 = unit(across(mat3::second_column(r), e0));
+    let [first, second, _] = mat3::columns(r);
+    let e0 = unit(first);
+    let e1 = unit(across(second, e0));
     mat3::from_columns(e0, e1, vec3::cross(e0, e1))
 }
 

@@ -8,21 +8,21 @@ ghost use Rattle.vec3.specs.Vector.{cross as cross_of, dot as dot_of, finite_vec
 pub fn vector_sum(a: [f64; 3], b: [f64; 3]) -> [f64; 3]
     ensures { result ≡ vector_sum a b }
 {
-    [a[0] + b[0], a[1] + b[1], a[2] + b[2]]
+    std::array::from_fn(|i| a[i] + b[i])
 }
 
 // The difference, coordinate by coordinate.
 pub fn vector_difference(a: [f64; 3], b: [f64; 3]) -> [f64; 3]
     ensures { result ≡ vector_difference a b }
 {
-    [a[0] - b[0], a[1] - b[1], a[2] - b[2]]
+    std::array::from_fn(|i| a[i] - b[i])
 }
 
 // Every coordinate times s.
 pub fn vector_scaled(v: [f64; 3], s: f64) -> [f64; 3]
     ensures { result ≡ vector_scaled v s }
 {
-    [v[0] * s, v[1] * s, v[2] * s]
+    std::array::from_fn(|i| v[i] * s)
 }
 
 // The scalar product.
@@ -36,16 +36,13 @@ pub fn dot(a: [f64; 3], b: [f64; 3]) -> f64
 pub fn cross(a: [f64; 3], b: [f64; 3]) -> [f64; 3]
     ensures { result ≡ cross_of a b }
 {
-    let a0 = a[0];
-    let a1 = a[1];
-    let a2 = a[2];
-    let b0 = b[0];
-    let b1 = b[1];
-    let b2 = b[2];
+    let [a0, a1, a2] = a;
+    let [b0, b1, b2] = b;
     [a1 * b2 - a2 * b1, a2 * b0 - a0 * b2, a0 * b1 - a1 * b0]
 }
 
 // None of the three numbers is an infinity or a NaN.
+#[tactic(auto, unfolding(crate::specs::Vector::three_finite))]
 pub fn is_finite_vector(v: [f64; 3]) -> bool
     ensures { result ≡ finite_vector v }
 {

@@ -1,28 +1,18 @@
--- `all_finite` meets its contract. The invariant: `yes` says whether the first n numbers are finite. Assumes nothing.
-use mathlib.Core.Path.{◌≡◌, refl}
-use mathlib.Core.Bool.{◌&&◌, and-true, and_assoc}
-use mathlib.Core.List.{List, [], ◌∷◌, ◌++◌}
-use Prim.Native.Nat.{◌<◌}
-use native.Mathlib.Numerals.{add-one}
-use native.Mathlib.Omega.{arith}
-use lib.ListN.{length}
-use lib.Seq.{take-suc}
-use lib.Ieee.{Float, nan}
+-- `all_finite` meets its contract: the chain asks each number. Assumes nothing.
+use Rattle.std.proofs.Common.{◌≡◌, List, [], ◌∷◌, Float, refl, ◌∙◌, rules}
+use Rattle.std.specs.List.{list_all}
+use Rattle.std.proofs.lemmas.Iterator.{YieldsList-from_slice}
+use Rattle.std.proofs.lemmas.Iterator.Search.{all_from_yields_List}
 use Rattle.number.specs.Float.{finite}
 use Rattle.mat9.specs.Matrix.{all_finite}
 use Rattle.mat9.proofs.all_finite.Goals as goal
 
-all-finite-more : (xs : List Float) (x : Float) → all_finite (xs ++ (x ∷ [])) ≡ (all_finite xs && finite x)
+each_finite : (xs : List Float) → list_all (λ x. finite x) xs ≡ all_finite xs
 unfolding all_finite
-all-finite-more [] x = and-true (finite x)
-all-finite-more (y ∷ ys) x = rw (all-finite-more ys x, and_assoc)
+each_finite [] = refl
+each_finite (x ∷ xs) = rw (each_finite xs)
 
-pub loop-n-init : goal.loop-n-init
-unfolding all_finite
-loop-n-init c = (omega arith, refl)
-
-pub loop-n-preserved : goal.loop-n-preserved
-loop-n-preserved c =
-    let m = c.args.m.now in
-    let h : c.loop-n.n < length m = omega arith in
-    (omega arith, rw (add-one, take-suc m c.loop-n.n nan h, all-finite-more, c.is_finite-yes.ensures, c.loop-n.invariant.1))
+pub returns : goal.returns
+returns c =
+    all_from_yields_List (λ x. finite x) _ _ _ c.all.ensures.ran (YieldsList-from_slice c.args.m.now cc) (λ x b q call. search rules)
+    ∙ each_finite c.args.m.now
