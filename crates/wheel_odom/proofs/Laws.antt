@@ -1,27 +1,23 @@
 -- How far the information of an exactly symmetric covariance is symmetric: but for the rounding of one pair of entries. Assumes nothing.
-use mathlib.Core.Path.{◌≡◌, refl, subst}
+use Rattle.std.proofs.Common.{◌≡◌, refl, subst, arith}
 use Prim.Native.Nat.{ℕ, ◌+◌, ◌*◌}
-use mathlib.Core.Bool.{Bool, true, false, not, ◌&&◌}
+use mathlib.Core.Bool.{true}
 use mathlib.Core.List.{List, [], ◌∷◌}
 use lib.ListN.{get_or}
 use lib.Ieee.{Float, nan, binary64}
 use lib.Ieee.Fits.{mul-fits}
-use Rattle.number.specs.Float.{finite, ◌=ᶠ◌, ◌when◌else◌}
-use Rattle.number.specs.Fit.{inverse_square}
-use Rattle.number.specs.Said.{gives, accepts, refuses}
-use Rattle.number.proofs.Cases.{refused_not_given}
-use Rattle.sincos.specs.Turn.{above_four}
+use Rattle.number.specs.Float.{◌=ᶠ◌}
+use Rattle.number.specs.Said.{gives}
 use Rattle.mat3.specs.Matrix.{finite_matrix}
 use Rattle.inverse3.specs.Inverse.{inverse}
 use Rattle.mat3.proofs.Laws.{Symmetric}
 use Rattle.inverse3.proofs.Laws.{inverse_symmetric}
 use Rattle.planar.specs.Compose.{turn_matrix}
-use Rattle.planar.specs.Motion.{heading}
 use Rattle.planar_information.specs.Block.{planar_block}
 use Rattle.wheel_odom.specs.declared.WheelOdomMeasurement.{WheelOdomMeasurement}
 use Rattle.wheel_odom.specs.Measurement.{motion_of}
-use Rattle.wheel_odom.specs.Information.{finite_information, has_information, information_matrix, information_of, zeros36}
-use Rattle.planar_information.proofs.Corner.{both, heading_across}
+use Rattle.wheel_odom.specs.Information.{information_matrix, information_of}
+use Rattle.planar_information.proofs.Corner.{heading_across}
 
 -- what stands in row i and column j of the thirty-six, a row and a column
 abbrev pub at : List Float → ℕ → ℕ → Float
@@ -41,22 +37,10 @@ pub record SymmetricButXY (m : List Float) : Type 0 where
   pub x_yaw : (at m 0 5 =ᶠ at m 5 0) ≡ true
   pub y_yaw : (at m 1 5 =ᶠ at m 5 1) ≡ true
 
-accepted : (m : WheelOdomMeasurement) → (information_of m).outcome ≡ gives tt → (finite_information m ≡ true) × (information_matrix m ≡ (information_of m).value)
-unfolding information_of
-accepted m = go (has_information m) (above_four (heading (motion_of m))) (finite_information m)
-  where
-    go : (has wide finite : Bool) → let r = refuses 9 zeros36 when not has else refuses 8 zeros36 when wide else refuses 2 zeros36 when not finite else accepts (information_matrix m) in r.outcome ≡ gives tt → (finite ≡ true) × (information_matrix m ≡ r.value)
-    go true true finite e = absurd (refused_not_given e)
-    go true false true e = (refl, refl)
-    go true false false e = absurd (refused_not_given e)
-    go false wide finite e = absurd (refused_not_given e)
-
-finite_block : (m : WheelOdomMeasurement) → finite_information m ≡ true → finite_matrix (planar_block (motion_of m)) ≡ true
-finite_block m e = (both (finite_matrix (planar_block (motion_of m))) (finite (inverse_square m.z_sigma)) (both (finite_matrix (planar_block (motion_of m)) && finite (inverse_square m.z_sigma)) (finite (inverse_square m.tilt_sigma)) e).0).0
-
 pub information_symmetric : (m : WheelOdomMeasurement) → Symmetric m.covariance → (information_of m).outcome ≡ gives tt → SymmetricButXY (information_of m).value
-unfolding information_matrix planar_block turn_matrix motion_of
+unfolding information_of information_matrix planar_block turn_matrix motion_of
 information_symmetric m s e =
-    let a = accepted m e in
-    let across = heading_across _ _ (inverse m.covariance) (inverse_symmetric m.covariance s) (mul-fits binary64 _ _) (mul-fits binary64 _ _) (finite_block m a.0) in
-    subst SymmetricButXY a.1 (record { z = refl; roll = refl; pitch = refl; x_yaw = across.x_heading; y_yaw = across.y_heading })
+    let given : information_matrix m ≡ (information_of m).value = grind arith in
+    let block_finite : finite_matrix (planar_block (motion_of m)) ≡ true = grind arith in
+    let across = heading_across _ _ (inverse m.covariance) (inverse_symmetric m.covariance s) (mul-fits binary64 _ _) (mul-fits binary64 _ _) block_finite in
+    subst SymmetricButXY given (record { z = refl; roll = refl; pitch = refl; x_yaw = across.x_heading; y_yaw = across.y_heading })
