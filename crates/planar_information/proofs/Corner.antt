@@ -1,8 +1,9 @@
 -- The planar block's entries of the heading: with the yaw's 0 and 1 taken off, what stands on one side of the diagonal and across it are sums of the same two products, so they
 -- are the same number. Assumes nothing.
-use mathlib.Core.Path.{◌≡◌, refl, sym, ap, ◌∙◌, subst}
+use Rattle.std.proofs.Common.{arith}
+use mathlib.Core.Path.{◌≡◌, sym, ap, ◌∙◌, subst}
 use Prim.Native.Nat.{ℕ}
-use mathlib.Core.Bool.{Bool, true, false, ◌&&◌, false≢true}
+use mathlib.Core.Bool.{true}
 use mathlib.Core.List.{List}
 use lib.Dec.{T}
 use lib.Ieee.{Float, binary64, fits}
@@ -81,29 +82,12 @@ pub record HeadingAcross (p : List Float) : Type 0 where
   pub x_heading : (entry p 0 2 =ᶠ entry p 2 0) ≡ true
   pub y_heading : (entry p 1 2 =ᶠ entry p 2 1) ≡ true
 
-pub both : (p q : Bool) → (p && q) ≡ true → (p ≡ true) × (q ≡ true)
-both true q e = (refl, e)
-both false q e = absurd (false≢true e)
-
 abbrev FiniteColumn : List Float → ℕ → Type 0
 FiniteColumn m j = (finite (entry m 0 j) ≡ true) × (finite (entry m 1 j) ≡ true) × (finite (entry m 2 j) ≡ true)
 
-module _ (m : List Float) where
-  abbrev test : ℕ → Bool
-  test j = three_finite (entry m 0 j) (entry m 1 j) (entry m 2 j)
-
-  column : (j : ℕ) → test j ≡ true → FiniteColumn m j
-  unfolding three_finite
-  column j p =
-      let last = both (finite (entry m 0 j) && finite (entry m 1 j)) (finite (entry m 2 j)) p in
-      let first = both (finite (entry m 0 j)) (finite (entry m 1 j)) last.0 in
-      (first.0, first.1, last.1)
-
-  columns : finite_matrix m ≡ true → FiniteColumn m 0 × FiniteColumn m 1 × FiniteColumn m 2
-  columns p =
-      let last = both (test 0 && test 1) (test 2) p in
-      let first = both (test 0) (test 1) last.0 in
-      (column 0 first.0, column 1 first.1, column 2 last.1)
+columns : (m : List Float) → finite_matrix m ≡ true → FiniteColumn m 0 × FiniteColumn m 1 × FiniteColumn m 2
+unfolding three_finite
+columns m p = ((grind arith, grind arith, grind arith), (grind arith, grind arith, grind arith), (grind arith, grind arith, grind arith))
 
 module _ (s c : Float) (P : List Float) where
   abbrev block : List Float

@@ -10,7 +10,8 @@ ghost use Rattle.stationary.specs.Join.{row_of};
 use inertial::ImuCalib;
 use number::Numbered;
 
-// The mean raw gyro rate in rad/s, body frame, and the seconds of samples behind it.
+// The mean raw gyro rate in rad/s, body frame, and the seconds of samples behind it. The rate is three named numbers and not an array, since specs/ names
+// each: an array would be no plainer there.
 #[derive(Clone, Copy)]
 pub struct StationaryGyro {
     pub x: f64,

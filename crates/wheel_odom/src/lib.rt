@@ -10,6 +10,7 @@ mod measurement;
 use number::Numbered;
 
 // (dx, dy, dθ) and its covariance, column by column; out-of-plane translation sigma in metres, roll and pitch sigma in radians.
+// The two stand by themselves and not as a PlanarMotion, as in the Rust: 01's statements are on the covariance of a measurement, and name it so.
 #[derive(Clone, Copy)]
 pub struct WheelOdomMeasurement {
     pub delta: [f64; 3],

@@ -47,6 +47,7 @@ impl WheelOdomMeasurement {
     pub fn planar_motion(self) -> PlanarMotion
         ensures { result ≡ motion_of self }
     {
+        // Each array has a name of its own, since no proof is generated for one that goes straight from a field into a literal.
         let delta = self.delta;
         let covariance = self.covariance;
         PlanarMotion { delta, covariance }
