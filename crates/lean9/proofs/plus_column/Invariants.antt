@@ -7,4 +7,4 @@ use Rattle.mat9.specs.Matrix.{entry}
 use Rattle.lean9.proofs.plus_column.Given as goal
 
 abbrev pub invariant-loop-r : goal.invariant-loop-r
-invariant-loop-r l = Filled 9 (λ r. get_or l.w r nan ⊕ entry 9 l.m r l.k ⊗ l.x) l.initial.out l.r l.out
+invariant-loop-r g l = Filled 9 (λ r. get_or l.w r nan ⊕ entry 9 l.m r l.k ⊗ l.x) l.initial.out l.r l.out

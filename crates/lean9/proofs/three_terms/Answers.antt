@@ -11,7 +11,7 @@ use Rattle.lean9.proofs.three_terms.Goals as goal
 
 pub returns : goal.returns
 unfolding tabulated
-returns c =
+returns g c =
     let k = c.args.k in
     let at : ℕ → ℕ → Float = λ k r. term c.args.m.now c.args.a.now r c.args.c k in
     c.plus_term.ensures
