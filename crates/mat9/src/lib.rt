@@ -12,7 +12,7 @@ pub fn mat9_add(a: &[f64; 81], b: &[f64; 81]) -> [f64; 81]
     std::array::from_fn(|n| a[n] + b[n])
 }
 
-// Three rows of so many 3×3 matrices, as they are printed.
+// Three rows of so many 3×3 matrices, as they are printed. Counted loops: an iterator over the places would have to divide each by nine for its row and column.
 fn from_blocks<const ACROSS: usize, const PARTS: usize, const N: usize>(
     parts: [[f64; 9]; PARTS],
 ) -> [f64; N]
