@@ -46,7 +46,7 @@ fn three_terms<const N: usize>(m: &[f64; N], a: &[f64; N], c: usize, k: usize) -
     plus_term(two, m, a, c, k + 2)
 }
 
-// Nine rows by their columns. By columns, since a closure for each entry was tried three ways and made an inertial step slower by 2 to 8 hundredths; put in place by
+// Nine rows by their columns. By columns, since a closure for each entry was tried three ways and made an inertial step slower by 2 to 9 hundredths; put in place by
 // counted loops, since no part of an array whose size is a parameter can be lent.
 fn of_columns<const COLUMNS: usize, const N: usize, F: Fn(usize) -> [f64; 9]>(column: F) -> [f64; N]
     requires size { N ≡ 9 * COLUMNS }
