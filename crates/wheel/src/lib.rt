@@ -8,7 +8,7 @@ use drive::{DifferentialDrive, WheelMeasurement, WheelNoise};
 use interval::Accumulated;
 use kept::KeptValues;
 
-// What an integrator is made with.
+// What an integrator is made with. Calls take the two apart, since the definitions of specs/ (`make_of`, `change_of`, `kept_of`, `reading_fits`) do.
 #[derive(Clone, Copy)]
 pub struct Settings {
     pub drive: DifferentialDrive,
