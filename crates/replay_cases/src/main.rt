@@ -7,33 +7,34 @@ ghost use Rattle.io.specs.Counts.{IsPrefixLen};
 use std::io;
 use std::io::Read;
 
-fn main(rt: HostRuntime) -> io::Result<()> {
-    replay_list(&rt)
-}
-
 // A proved loop has to end, and nothing says that the input does. So the loop ends at a number that no run reaches.
-fn replay_list(rt: &(impl Input + Print)) -> io::Result<()> {
+fn main(rt: HostRuntime) -> io::Result<()> {
     for i in 0..u64::MAX {
-        if !replay_next(rt, i)? {
+        let Some(size) = read_size(&rt) else {
             return Ok(());
-        }
+        };
+        replay_next(&rt, i, size)?;
     }
     Ok(())
 }
 
-// Log i, or false where the list ends. No log of the list is longer than 66,000 bytes.
-fn replay_next(rt: &(impl Input + Print), i: u64) -> io::Result<bool> {
+// The length of the next log, or none where the list ends.
+fn read_size(rt: &impl Input) -> Option<u64> {
     let mut size = [0u8; 8];
     if cases::read_full(&mut rt.reader(), &mut size) < 8 {
-        return Ok(false);
+        return None;
     }
+    Some(words::u64_at(&size, 0))
+}
+
+// Log i. None of the list is longer than 66,000 bytes.
+fn replay_next(rt: &(impl Input + Print), i: u64, size: u64) -> io::Result<()> {
     let mut log = [0u8; 66000];
-    let n = read_log(&mut rt.reader(), &mut log, words::u64_at(&size, 0));
+    let n = read_log(&mut rt.reader(), &mut log, size);
     println!(rt; "log {i}")?;
     let mut out = [0u8; 65536];
     let r = log_lines::replay(&log[..n], &mut out);
-    rt.write_all(&out[..r])?;
-    Ok(true)
+    rt.write_all(&out[..r])
 }
 
 // The next size bytes, if buf has room for them.
