@@ -183,8 +183,8 @@ fn read_noise(rt: &impl Input, call: u64) -> WheelNoise {
 }
 
 fn read_motion(rt: &impl Input) -> PlanarMotion {
-    let delta = cases::read_three(rt);
-    let covariance = cases::read_nine(rt);
+    let delta = cases::read_array(rt);
+    let covariance = cases::read_array(rt);
     PlanarMotion { delta, covariance }
 }
 
@@ -212,7 +212,7 @@ fn read_kept(
     if kind < 200 {
         return kept::kept_of(drive, noise);
     }
-    let rate_noise = cases::read_nine(rt);
+    let rate_noise = cases::read_array(rt);
     let radians_per_tick = cases::read_f64(rt);
     KeptValues {
         rate_noise,
