@@ -17,5 +17,8 @@ refusal_back R.InvalidFactor = refl
 refusal_back R.NotJoined = refl
 refusal_back R.NonFinite = refl
 
+pub row_determined : (a b : Refusal) → row_of a ≡ row_of b → a ≡ b
+row_determined = determined row_of refusal_with refusal_back
+
 pub joined_determined : (a b : Result StationaryFactor Refusal) → said_joined a ≡ said_joined b → a ≡ b
-joined_determined = said_result_determined row_of (determined row_of refusal_with refusal_back)
+joined_determined = said_result_determined row_of row_determined

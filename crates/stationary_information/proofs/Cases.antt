@@ -16,5 +16,8 @@ refusal_back : (r : Refusal) → refusal_with (refusal_row r) ≡ r
 refusal_back R.InvalidFactor = refl
 refusal_back R.NonFinite = refl
 
+pub row_determined : (a b : Refusal) → refusal_row a ≡ refusal_row b → a ≡ b
+row_determined = determined refusal_row refusal_with refusal_back
+
 pub informed_determined : (a b : Result StationaryInfo Refusal) → told_informed a ≡ told_informed b → a ≡ b
-informed_determined = told_result_determined refusal_row (determined refusal_row refusal_with refusal_back) blank_info
+informed_determined = told_result_determined refusal_row row_determined blank_info

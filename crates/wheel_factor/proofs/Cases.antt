@@ -17,5 +17,8 @@ refusal_back R.NotJoined = refl
 refusal_back R.NonFinite = refl
 refusal_back R.AngleRange = refl
 
+pub row_determined : (a b : Refusal) → row_of a ≡ row_of b → a ≡ b
+row_determined = determined row_of refusal_with refusal_back
+
 pub factor_determined : (a b : Result WheelOdomFactor Refusal) → told_factor a ≡ told_factor b → a ≡ b
-factor_determined = told_result_determined row_of (determined row_of refusal_with refusal_back) blank_factor
+factor_determined = told_result_determined row_of row_determined blank_factor
