@@ -104,9 +104,7 @@ pub extern "C" fn bench_inertial_batch(samples: &[f64]) -> f64
         gyro_bias_noise: 0.001,
         accel_bias_noise: 0.01,
     };
-    let made = PreintegratedImu::new(ImuBias::ZERO, calib);
-    let fresh = made.state;
-    let batch = imu_window::integrate_batch(fresh, samples);
-    let state = batch.state;
+    let mut state = PreintegratedImu::new(ImuBias::ZERO, calib).unwrap_or(PreintegratedImu::BLANK);
+    let _ = imu_window::integrate_batch(&mut state, samples);
     state.dt
 }

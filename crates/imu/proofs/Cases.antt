@@ -1,45 +1,47 @@
--- What an inertial call says in 01's numbers, and the value beside it, determine the answer: the case is read back from the number. Assumes nothing.
-use mathlib.Core.Path.{◌≡◌, refl, ap}
-use lib.Dec.{eqb}
+-- What an inertial call says in 01's numbers, and the state that stands beside it, determine the answer: a refusal is read back from its row. Assumes nothing.
+use Rattle.std.proofs.Common.{◌≡◌, refl, eqb}
+use Rattle.std.specs.Prelude.{Result, Ok, Err}
+use Rattle.std.specs.Result.{result_unwrap_or}
 use Rattle.number.specs.Float.{◌when◌else◌}
-use Rattle.number.specs.Said.{Said, gives, refused, Told}
-use Rattle.number.proofs.Cases.{determined}
-use Rattle.imu.specs.declared.Outcome.{Outcome}
-use Rattle.imu.specs.declared.Outcome.TheVariants as O
-use Rattle.imu.specs.declared.Integrated.{Integrated}
-use Rattle.imu.specs.Answers.{said_outcome, told_with}
-use Rattle.imu.specs.State.{told_integrated}
+use Rattle.number.specs.Said.{Row}
+use Rattle.number.proofs.Cases.{determined, told_after_determined, told_result_determined}
+use Rattle.number.proofs.Refusals.{row_determined as number_row_determined}
+use Rattle.number.specs.declared.refusal.Refusal.{Refusal as NumberRefusal}
+use Rattle.number.specs.Refusals.{row_of as number_row_of}
+use Rattle.imu.specs.declared.PreintegratedImu.{PreintegratedImu}
+use Rattle.imu.specs.declared.Refusal.{Refusal}
+use Rattle.imu.specs.declared.Refusal.TheVariants as R
+use Rattle.imu.specs.Answers.{row_of}
+use Rattle.imu.specs.State.{blank, told_integrated, told_made, told_widened}
 
--- the case that has the number
-abbrev case_of : Said (Unit {0}) → Outcome
-case_of (gives u) = O.Accepted
-case_of (refused n values) =
-    O.NonFinite when eqb n 2 else
-    O.OutOfOrder when eqb n 3 else
-    O.Duplicate when eqb n 4 else
-    O.InvalidNoise when eqb n 6 else
-    O.AngleRange when eqb n 8 else
-    O.BadLength when eqb n 12 else
-    O.TooMany when eqb n 13 else
-    O.NoRoom
+abbrev refusal_of : Row → Refusal
+refusal_of r =
+    R.NonFinite when eqb r.number 2 else
+    R.OutOfOrder when eqb r.number 3 else
+    R.Duplicate when eqb r.number 4 else
+    R.InvalidNoise when eqb r.number 6 else
+    R.AngleRange
 
-read_back : (o : Outcome) → case_of (said_outcome o) ≡ o
-read_back O.Accepted = refl
-read_back O.NonFinite = refl
-read_back O.OutOfOrder = refl
-read_back O.Duplicate = refl
-read_back O.InvalidNoise = refl
-read_back O.AngleRange = refl
-read_back O.BadLength = refl
-read_back O.TooMany = refl
-read_back O.NoRoom = refl
+refusal_back : (a : Refusal) → refusal_of (row_of a) ≡ a
+refusal_back R.NonFinite = refl
+refusal_back R.OutOfOrder = refl
+refusal_back R.Duplicate = refl
+refusal_back R.InvalidNoise = refl
+refusal_back R.AngleRange = refl
 
-pub outcome_determined : (a b : Outcome) → said_outcome a ≡ said_outcome b → a ≡ b
-outcome_determined = determined said_outcome case_of read_back
+pub row_determined : (a b : Refusal) → row_of a ≡ row_of b → a ≡ b
+row_determined = determined row_of refusal_of refusal_back
 
--- of an answer that is an outcome beside a value: what it says has the same outcome
-pub same_outcome : {A : Type 0} (a b : Outcome) (x y : A) → told_with a x ≡ told_with b y → a ≡ b
-same_outcome {A} a b x y e = outcome_determined a b (ap (λ (t : Told A). t.outcome) e)
+pub made_determined : (a b : Result PreintegratedImu Refusal) → told_made a ≡ told_made b → a ≡ b
+made_determined = told_result_determined row_of row_determined blank
 
-pub integrated_determined : (a b : Integrated) → told_integrated a ≡ told_integrated b → a ≡ b
-integrated_determined a b e = let same = same_outcome a.outcome b.outcome a.state b.state e in λ i. record { outcome = same i; state = (e i).value }
+-- with the blank taken where there is none, a making's answer is the state that it tells
+pub made_or_blank : (r : Result PreintegratedImu Refusal) → result_unwrap_or r blank ≡ (told_made r).value
+made_or_blank (Ok s) = refl
+made_or_blank (Err why) = refl
+
+pub widened_determined : (a b : Result (Unit {0}) NumberRefusal) (s t : PreintegratedImu) → told_widened a s ≡ told_widened b t → (a ≡ b) × (s ≡ t)
+widened_determined = told_after_determined number_row_of number_row_determined
+
+pub integrated_determined : (a b : Result (Unit {0}) Refusal) (s t : PreintegratedImu) → told_integrated a s ≡ told_integrated b t → (a ≡ b) × (s ≡ t)
+integrated_determined = told_after_determined row_of row_determined

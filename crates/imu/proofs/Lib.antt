@@ -3,4 +3,3 @@ pub mod Cases
 pub mod Laws
 pub mod Follows
 pub mod Statements
-pub mod Outcomes

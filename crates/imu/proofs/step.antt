@@ -1,2 +1,1 @@
-pub mod Advanced
 pub mod Lean

@@ -1,9 +1,11 @@
 -- 01, Inertial accumulation: the state, a fresh one, and what it is to be finite.
-use Rattle.std.specs.Prelude.{Bool, not, ◌&&◌, List, Float, replicate}
+use Rattle.std.specs.Prelude.{Result, Bool, not, ◌&&◌, List, Float, replicate}
 use Rattle.number.specs.Float.{◌⊗◌, ◌when◌else◌, finite}
 use Rattle.number.specs.Constants.{zero as +0}
 use Rattle.number.specs.Fit.{finite_not_negative, finite_positive}
-use Rattle.number.specs.Said.{Told, accepts, refuses}
+use Rattle.number.specs.Said.{Told, accepts, refuses, told_after, told_result}
+use Rattle.number.specs.declared.refusal.Refusal.{Refusal as NumberRefusal}
+use Rattle.number.specs.Refusals.{row_of as number_row_of}
 use Rattle.mat3.specs.Matrix.{zeros, identity, finite_matrix}
 use Rattle.vec3.specs.Vector.{zero_vector, finite_vector}
 use Rattle.mat9.specs.Matrix.{all_finite, diagonal_raised, finite_diagonal}
@@ -11,8 +13,8 @@ use Rattle.inertial.specs.declared.ImuMeasurement.{ImuMeasurement}
 use Rattle.inertial.specs.declared.ImuBias.{ImuBias}
 use Rattle.inertial.specs.declared.ImuCalib.{ImuCalib}
 use Rattle.imu.specs.declared.PreintegratedImu.{PreintegratedImu}
-use Rattle.imu.specs.declared.Integrated.{Integrated}
-use Rattle.imu.specs.Answers.{told_with}
+use Rattle.imu.specs.declared.Refusal.{Refusal}
+use Rattle.imu.specs.Answers.{row_of}
 
 -- ---- making one
 
@@ -75,6 +77,9 @@ make_of b c =
     refuses 6 blank when not (valid_calib c) else
     refuses 2 blank when not (finite_bias b) else
     accepts (fresh b c)
+
+abbrev pub told_made : Result PreintegratedImu Refusal → Told PreintegratedImu
+told_made r = told_result row_of blank r
 
 -- ---- finite
 
@@ -141,5 +146,9 @@ widened_of s seconds =
     refuses 2 s when not (finite_diagonal (walked s seconds)) else
     accepts (with_bias_covariance s (walked s seconds))
 
-abbrev pub told_integrated : Integrated → Told PreintegratedImu
-told_integrated r = told_with r.outcome r.state
+-- of a call that changes the state: what it answers, and the state after it
+abbrev pub told_widened : Result (Unit {0}) NumberRefusal → PreintegratedImu → Told PreintegratedImu
+told_widened r after = told_after number_row_of r after
+
+abbrev pub told_integrated : Result (Unit {0}) Refusal → PreintegratedImu → Told PreintegratedImu
+told_integrated r after = told_after row_of r after

@@ -3,11 +3,13 @@
 // and `imu_window`.
 #![tactic(auto)]
 
-mod answer;
 mod state;
 mod step;
 
+ghost use Rattle.imu.specs.Answers.{row_of};
+
 use inertial::{ImuBias, ImuCalib};
+use number::Numbered;
 pub use state::is_finite_bias;
 
 #[derive(Clone, Copy)]
@@ -31,24 +33,28 @@ pub struct PreintegratedImu {
     pub d_position_d_bias_accel: [f64; 9],
 }
 
-// What became of a call, and the state after it: where it was refused, the state as it came.
-#[derive(Clone, Copy)]
-pub struct Integrated {
-    pub outcome: Outcome,
-    pub state: PreintegratedImu,
-}
-
-#[derive(Clone, Copy)]
-pub enum Outcome {
-    Accepted,
+// Why a call is refused, each case named as in 01's table of refusals. The state is then as it came.
+#[derive(Clone, Copy, Debug, PartialEq, Eq)]
+pub enum Refusal {
     NonFinite,
     OutOfOrder,
     Duplicate,
     InvalidNoise,
     AngleRange,
-    BadLength,
-    TooMany,
-    NoRoom,
+}
+
+impl Numbered for Refusal {
+    ghost row_of = { row_of };
+
+    fn number(self) -> u64 {
+        match self {
+            Refusal::NonFinite => 2,
+            Refusal::OutOfOrder => 3,
+            Refusal::Duplicate => 4,
+            Refusal::InvalidNoise => 6,
+            Refusal::AngleRange => 8,
+        }
+    }
 }
 
 // The size of standard gravity in m/s².

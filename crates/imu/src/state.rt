@@ -1,14 +1,16 @@
 // The state that readings are accumulated into.
 ghost use Rattle.std.specs.Prelude.{◌≡◌};
-ghost use Rattle.imu.specs.Answers.{told_with};
-ghost use Rattle.imu.specs.State.{accel_walk, blank, finite_bias, finite_calib, finite_jacobians, finite_measurement, finite_motion, finite_state, valid_calib, fresh as fresh_of, gyro_walk, make_of, told_integrated, walked as walked_of, widened_of};
+ghost use Rattle.number.specs.Float.{◌⊗◌};
+ghost use Rattle.imu.specs.State.{finite_bias, finite_calib, finite_jacobians, finite_measurement, finite_motion, finite_state, fresh as fresh_of, make_of, told_made, told_widened, valid_calib, walked as walked_of, widened_of};
+ghost use Rattle.imu.specs.Step.{motion_of};
 
-use crate::{Integrated, Outcome, PreintegratedImu};
+use crate::{PreintegratedImu, Refusal};
+use imu_step::Motion;
 use inertial::{ImuBias, ImuCalib, ImuMeasurement};
 
 impl PreintegratedImu {
     // Stands where no state was made.
-    const BLANK: PreintegratedImu = PreintegratedImu {
+    pub const BLANK: PreintegratedImu = PreintegratedImu {
         delta_rotation: [0.0, 0.0, 0.0, 0.0, 0.0, 0.0, 0.0, 0.0, 0.0],
         delta_velocity: [0.0, 0.0, 0.0],
         delta_position: [0.0, 0.0, 0.0],
@@ -29,119 +31,90 @@ impl PreintegratedImu {
         d_position_d_bias_accel: [0.0, 0.0, 0.0, 0.0, 0.0, 0.0, 0.0, 0.0, 0.0],
     };
 
+    // Nothing accumulated yet.
     #[tactic(auto, unfolding(crate::specs::State::make_of))]
-    pub fn new(bias: ImuBias, calib: ImuCalib) -> Integrated
-        ensures { told_integrated result ≡ make_of bias calib }
+    pub fn new(bias: ImuBias, calib: ImuCalib) -> Result<PreintegratedImu, Refusal>
+        ensures { told_made result ≡ make_of bias calib }
     {
         if !is_valid_calib(calib) {
-            return not_made(Outcome::InvalidNoise);
+            return Err(Refusal::InvalidNoise);
         }
         if !is_finite_bias(bias) {
-            return not_made(Outcome::NonFinite);
+            return Err(Refusal::NonFinite);
         }
-        Integrated {
-            outcome: Outcome::Accepted,
-            state: fresh(bias, calib),
-        }
+        Ok(fresh(bias, calib))
     }
 
     // Widens the random walk of the biases by some seconds beyond the time integrated: for an edge whose bias link also covers time outside its
     // samples, such as a still stretch before it. Seconds that are not finite or not above 0 change nothing.
     #[tactic(auto, unfolding(crate::specs::State::widened_of))]
-    pub fn widen_bias_walk(self, seconds: f64) -> Integrated
-        ensures { told_integrated result ≡ widened_of self seconds }
+    pub fn widen_bias_walk(&mut self, seconds: f64) -> Result<(), number::Refusal>
+        ensures { told_widened result self.new ≡ widened_of self.old seconds }
     {
         if !number::is_finite_positive(seconds) {
-            return Integrated {
-                outcome: Outcome::Accepted,
-                state: self,
-            };
+            return Ok(());
         }
         let bias_covariance = self.walked(seconds);
         if !mat9::is_finite_diagonal(bias_covariance) {
-            return Integrated {
-                outcome: Outcome::NonFinite,
-                state: self,
-            };
+            return Err(number::Refusal::NonFinite);
         }
-        let mut state = self;
-        state.bias_covariance = bias_covariance;
-        Integrated {
-            outcome: Outcome::Accepted,
-            state,
-        }
+        self.bias_covariance = bias_covariance;
+        Ok(())
     }
 
     // The covariance of the biases after so many seconds more.
     #[tactic(auto, unfolding(crate::specs::State::walked))]
-    pub(crate) fn walked(self, seconds: f64) -> [f64; 36]
-        ensures { result ≡ walked_of self seconds }
+    pub(crate) fn walked(&self, seconds: f64) -> [f64; 36]
+        ensures { result ≡ walked_of self.now seconds }
     {
-        let calib = self.calib;
-        let before = self.bias_covariance;
         mat9::with_raised_diagonal(
-            before,
-            gyro_walk(calib, seconds),
-            accel_walk(calib, seconds),
+            self.bias_covariance,
+            walk(self.calib.gyro_bias_noise, seconds),
+            walk(self.calib.accel_bias_noise, seconds),
         )
     }
 
     #[tactic(auto, unfolding(crate::specs::State::finite_state))]
-    pub fn is_finite(self) -> bool
-        ensures { result ≡ finite_state self }
+    pub fn is_finite(&self) -> bool
+        ensures { result ≡ finite_state self.now }
     {
-        let bias = self.bias;
-        let calib = self.calib;
-        let covariance = self.covariance;
-        let bias_covariance = self.bias_covariance;
         self.has_finite_motion()
-            & is_finite_bias(bias)
-            & is_finite_calib(calib)
-            & mat9::all_finite(&covariance)
-            & mat9::all_finite(&bias_covariance)
+            & is_finite_bias(self.bias)
+            & is_finite_calib(self.calib)
+            & mat9::all_finite(&self.covariance)
+            & mat9::all_finite(&self.bias_covariance)
             & self.has_finite_jacobians()
     }
 
-    #[tactic(auto, unfolding(crate::specs::State::finite_motion))]
-    fn has_finite_motion(self) -> bool
-        ensures { result ≡ finite_motion self }
+    pub(crate) fn motion(&self) -> Motion
+        ensures { result ≡ motion_of self.now }
     {
-        let rotation = self.delta_rotation;
-        let velocity = self.delta_velocity;
-        let position = self.delta_position;
-        mat3::is_finite(rotation)
-            & vec3::is_finite_vector(velocity)
-            & vec3::is_finite_vector(position)
-            & number::is_finite(self.dt)
+        Motion {
+            rotation: self.delta_rotation,
+            velocity: self.delta_velocity,
+            position: self.delta_position,
+        }
+    }
+
+    #[tactic(auto, unfolding(crate::specs::State::finite_motion))]
+    fn has_finite_motion(&self) -> bool
+        ensures { result ≡ finite_motion self.now }
+    {
+        self.motion().is_finite() & number::is_finite(self.dt)
     }
 
     #[tactic(auto, unfolding(crate::specs::State::finite_jacobians))]
-    fn has_finite_jacobians(self) -> bool
-        ensures { result ≡ finite_jacobians self }
+    fn has_finite_jacobians(&self) -> bool
+        ensures { result ≡ finite_jacobians self.now }
     {
-        let rg = self.d_rotation_d_bias_gyro;
-        let vg = self.d_velocity_d_bias_gyro;
-        let va = self.d_velocity_d_bias_accel;
-        let pg = self.d_position_d_bias_gyro;
-        let pa = self.d_position_d_bias_accel;
-        mat3::is_finite(rg)
-            & mat3::is_finite(vg)
-            & mat3::is_finite(va)
-            & mat3::is_finite(pg)
-            & mat3::is_finite(pa)
+        mat3::is_finite(self.d_rotation_d_bias_gyro)
+            & mat3::is_finite(self.d_velocity_d_bias_gyro)
+            & mat3::is_finite(self.d_velocity_d_bias_accel)
+            & mat3::is_finite(self.d_position_d_bias_gyro)
+            & mat3::is_finite(self.d_position_d_bias_accel)
     }
 }
 
-fn not_made(outcome: Outcome) -> Integrated
-    ensures { told_integrated result ≡ told_with outcome blank }
-{
-    Integrated {
-        outcome,
-        state: PreintegratedImu::BLANK,
-    }
-}
-
-// Nothing accumulated yet.
 fn fresh(bias: ImuBias, calib: ImuCalib) -> PreintegratedImu
     ensures { result ≡ fresh_of bias calib }
 {
@@ -153,16 +126,11 @@ fn fresh(bias: ImuBias, calib: ImuCalib) -> PreintegratedImu
     }
 }
 
-fn gyro_walk(calib: ImuCalib, seconds: f64) -> f64
-    ensures { result ≡ gyro_walk calib seconds }
+// What a bias of this density walks in so many seconds: its variance.
+fn walk(density: f64, seconds: f64) -> f64
+    ensures { result ≡ density ⊗ density ⊗ seconds }
 {
-    calib.gyro_bias_noise * calib.gyro_bias_noise * seconds
-}
-
-fn accel_walk(calib: ImuCalib, seconds: f64) -> f64
-    ensures { result ≡ accel_walk calib seconds }
-{
-    calib.accel_bias_noise * calib.accel_bias_noise * seconds
+    density * density * seconds
 }
 
 #[tactic(auto, unfolding(crate::specs::State::valid_calib))]
@@ -189,16 +157,14 @@ fn is_finite_calib(calib: ImuCalib) -> bool
 pub fn is_finite_bias(bias: ImuBias) -> bool
     ensures { result ≡ finite_bias bias }
 {
-    let gyro = bias.gyro;
-    let accel = bias.accel;
-    vec3::is_finite_vector(gyro) & vec3::is_finite_vector(accel)
+    vec3::is_finite_vector(bias.gyro) & vec3::is_finite_vector(bias.accel)
 }
 
 #[tactic(auto, unfolding(crate::specs::State::finite_measurement))]
 pub(crate) fn is_finite_measurement(m: ImuMeasurement) -> bool
     ensures { result ≡ finite_measurement m }
 {
-    let gyro = m.gyro;
-    let accel = m.accel;
-    number::is_finite(m.timestamp) & vec3::is_finite_vector(gyro) & vec3::is_finite_vector(accel)
+    number::is_finite(m.timestamp)
+        & vec3::is_finite_vector(m.gyro)
+        & vec3::is_finite_vector(m.accel)
 }

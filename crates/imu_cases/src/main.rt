@@ -22,29 +22,18 @@
 
 ghost use Rattle.std.specs.Prelude.{◌≡◌, ◌≤◌, length, take};
 
-use imu::{Outcome, PreintegratedImu};
-use imu_correction::CorrectedVector;
+use imu::PreintegratedImu;
+use imu_correction::Motion;
 use inertial::{ImuBias, ImuCalib, ImuMeasurement};
+use number::Numbered;
 use std::io;
 
-// A proved loop has to end, and nothing says that the input does. So the loop has a number of turns that no run uses up. Before the
-// first making stands the blank state that a refused one gives.
+// Before the first making stands the blank state that is printed beside a refused one.
 fn main(rt: HostRuntime) -> io::Result<()> {
-    let unfit = ImuCalib {
-        gyro_noise: -1.0,
-        accel_noise: 0.0,
-        gyro_bias_noise: 0.0,
-        accel_bias_noise: 0.0,
-    };
-    let refused = PreintegratedImu::new(ImuBias::ZERO, unfit);
-    let mut state = refused.state;
-    for _ in 0..u64::MAX {
-        let kind = cases::read_word(&rt);
-        if kind == 0 {
-            return Ok(());
-        }
+    let mut state = PreintegratedImu::BLANK;
+    for kind in cases::kinds(&rt) {
         cases::print_word(&rt, kind)?;
-        state = after_record(&rt, kind, state)?;
+        after_record(&rt, kind, &mut state)?;
         cases::end_line(&rt)?;
     }
     Ok(())
@@ -53,71 +42,54 @@ fn main(rt: HostRuntime) -> io::Result<()> {
 fn after_record(
     rt: &(impl Input + Print),
     kind: u64,
-    before: PreintegratedImu,
-) -> io::Result<PreintegratedImu> {
-    let call = kind % 100;
-    if (call < 2) | (7 < call) {
-        ask(rt, kind, before)?;
-        return Ok(before);
+    state: &mut PreintegratedImu,
+) -> io::Result<()> {
+    match kind % 100 {
+        2 => make(rt, state)?,
+        3 => step(rt, state)?,
+        4 => widen(rt, state)?,
+        5 => integrate_batch(rt, state)?,
+        6 => integrate_window(rt, state)?,
+        7 => {
+            *state = read_state(rt);
+            return Ok(());
+        }
+        _ => return ask(rt, kind, *state),
     }
-    if call == 7 {
-        return Ok(read_state(rt));
-    }
-    let state = after_call(rt, call, before)?;
-    print_motion(rt, kind, state)?;
-    Ok(state)
-}
-
-fn after_call(
-    rt: &(impl Input + Print),
-    call: u64,
-    before: PreintegratedImu,
-) -> io::Result<PreintegratedImu> {
-    match call {
-        2 => made(rt),
-        3 => stepped(rt, before),
-        4 => widened(rt, before),
-        5 => batched(rt, before),
-        _ => windowed(rt),
-    }
+    print_motion(rt, kind, *state)
 }
 
 // ---- the calls that give a state
 
-fn made(rt: &(impl Input + Print)) -> io::Result<PreintegratedImu> {
+fn make(rt: &(impl Input + Print), state: &mut PreintegratedImu) -> io::Result<()> {
     let bias = read_bias(rt);
     let answer = PreintegratedImu::new(bias, cases::read_calib(rt));
-    let outcome = answer.outcome;
-    print_outcome(rt, outcome)?;
-    Ok(answer.state)
+    print_outcome(rt, &answer)?;
+    *state = answer.unwrap_or(PreintegratedImu::BLANK);
+    Ok(())
 }
 
-fn stepped(rt: &(impl Input + Print), before: PreintegratedImu) -> io::Result<PreintegratedImu> {
+fn step(rt: &(impl Input + Print), state: &mut PreintegratedImu) -> io::Result<()> {
     let m = read_measurement(rt);
-    let answer = before.integrate(m, cases::read_f64(rt));
-    let outcome = answer.outcome;
-    print_outcome(rt, outcome)?;
-    Ok(answer.state)
+    print_outcome(rt, &state.integrate(m, cases::read_f64(rt)))
 }
 
-fn widened(rt: &(impl Input + Print), before: PreintegratedImu) -> io::Result<PreintegratedImu> {
-    let answer = before.widen_bias_walk(cases::read_f64(rt));
-    let outcome = answer.outcome;
-    print_outcome(rt, outcome)?;
-    Ok(answer.state)
+fn widen(rt: &(impl Input + Print), state: &mut PreintegratedImu) -> io::Result<()> {
+    print_outcome(rt, &state.widen_bias_walk(cases::read_f64(rt)))
 }
 
-fn batched(rt: &(impl Input + Print), before: PreintegratedImu) -> io::Result<PreintegratedImu> {
+fn integrate_batch(rt: &(impl Input + Print), state: &mut PreintegratedImu) -> io::Result<()> {
     let mut samples = [0.0; 28679];
     let n = read_samples(rt, &mut samples);
-    let answer = imu_window::integrate_batch(before, &samples[..n]);
-    let outcome = answer.outcome;
-    print_outcome(rt, outcome)?;
-    cases::print_word(rt, answer.index as u64)?;
-    Ok(answer.state)
+    let (number, index) = match imu_window::integrate_batch(state, &samples[..n]) {
+        Ok(()) => (0, 0),
+        Err(refused) => (refused.why.number(), refused.index),
+    };
+    cases::print_word(rt, number)?;
+    cases::print_word(rt, index as u64)
 }
 
-fn windowed(rt: &(impl Input + Print)) -> io::Result<PreintegratedImu> {
+fn integrate_window(rt: &(impl Input + Print), state: &mut PreintegratedImu) -> io::Result<()> {
     let bias = read_bias(rt);
     let calib = cases::read_calib(rt);
     let t0 = cases::read_f64(rt);
@@ -126,36 +98,35 @@ fn windowed(rt: &(impl Input + Print)) -> io::Result<PreintegratedImu> {
     let places = read_places(rt, &mut order);
     let mut samples = [0.0; 28679];
     let n = read_samples(rt, &mut samples);
-    over_window(rt, bias, calib, &samples[..n], t0, t1, &mut order[..places])
-}
-
-fn over_window(
-    rt: &impl Print,
-    bias: ImuBias,
-    calib: ImuCalib,
-    samples: &[f64],
-    t0: f64,
-    t1: f64,
-    order: &mut [usize],
-) -> io::Result<PreintegratedImu> {
-    let answer = imu_window::from_measurements(bias, calib, samples, t0, t1, order);
-    let outcome = answer.outcome;
-    print_outcome(rt, outcome)?;
-    print_places(rt, order)?;
-    Ok(answer.state)
+    let order = &mut order[..places];
+    match imu_window::from_measurements(bias, calib, &samples[..n], t0, t1, order) {
+        Ok(after) => {
+            *state = after;
+            cases::print_word(rt, 0)?;
+        }
+        Err(refused) => {
+            *state = refused.state;
+            cases::print_word(rt, refused.why.number())?;
+        }
+    }
+    print_places(rt, order)
 }
 
 // ---- what is asked, and leaves the state
 
 fn ask(rt: &(impl Input + Print), kind: u64, state: PreintegratedImu) -> io::Result<()> {
     match kind % 100 {
-        8 => ask_rotation(rt, kind, state),
-        9 => print_corrected(
+        8 => print_answer(
+            rt,
+            kind,
+            imu_correction::delta_rotation_with_bias(state, read_bias(rt)),
+        ),
+        9 => print_answer(
             rt,
             kind,
             imu_correction::delta_velocity_with_bias(state, read_bias(rt)),
         ),
-        10 => print_corrected(
+        10 => print_answer(
             rt,
             kind,
             imu_correction::delta_position_with_bias(state, read_bias(rt)),
@@ -166,23 +137,14 @@ fn ask(rt: &(impl Input + Print), kind: u64, state: PreintegratedImu) -> io::Res
     }
 }
 
-fn ask_rotation(rt: &(impl Input + Print), kind: u64, state: PreintegratedImu) -> io::Result<()> {
-    let answer = imu_correction::delta_rotation_with_bias(state, read_bias(rt));
-    let outcome = answer.outcome;
-    let rotation = answer.rotation;
-    print_outcome(rt, outcome)?;
-    cases::print_near(rt, kind, &rotation)
-}
-
-fn print_corrected(
+// A refusal has zeros beside it.
+fn print_answer<const N: usize, E: Numbered + Copy>(
     rt: &(impl Input + Print),
     kind: u64,
-    answer: CorrectedVector,
+    answer: Result<[f64; N], E>,
 ) -> io::Result<()> {
-    let outcome = answer.outcome;
-    let vector = answer.vector;
-    print_outcome(rt, outcome)?;
-    cases::print_near(rt, kind, &vector)
+    print_outcome(rt, &answer)?;
+    cases::print_near(rt, kind, &answer.unwrap_or([0.0; N]))
 }
 
 fn ask_prediction(rt: &(impl Input + Print), kind: u64, state: PreintegratedImu) -> io::Result<()> {
@@ -190,15 +152,11 @@ fn ask_prediction(rt: &(impl Input + Print), kind: u64, state: PreintegratedImu)
     let v = cases::read_three(rt);
     let p = cases::read_three(rt);
     let answer = imu_correction::predict(state, r, v, p, cases::read_three(rt));
-    let outcome = answer.outcome;
-    let next = answer.state;
-    let rotation = next.rotation;
-    let velocity = next.velocity;
-    let position = next.position;
-    print_outcome(rt, outcome)?;
-    cases::print_near(rt, kind, &rotation)?;
-    cases::print_near(rt, kind, &velocity)?;
-    cases::print_near(rt, kind, &position)
+    print_outcome(rt, &answer)?;
+    let next = answer.unwrap_or(Motion::BLANK);
+    cases::print_near(rt, kind, &next.rotation)?;
+    cases::print_near(rt, kind, &next.velocity)?;
+    cases::print_near(rt, kind, &next.position)
 }
 
 // ---- what a record holds
@@ -251,8 +209,7 @@ fn read_state(rt: &impl Input) -> PreintegratedImu {
 fn read_at_most(rt: &impl Input, most: usize) -> usize
     ensures { result ≤ most }
 {
-    let n = cases::read_word(rt) as usize;
-    if n < most { n } else { most }
+    (cases::read_word(rt) as usize).min(most)
 }
 
 // How many numbers the samples are. The buffer holds zeros before, and the first of them after.
@@ -271,27 +228,21 @@ fn read_places(rt: &impl Input, order: &mut [usize]) -> usize
     ensures upper_bound { result ≤ length order.new }
     ensures value { result ≡ length (take result order.new) }
 {
-    for i in 0..order.len() {
-        order[i] = 1000 + i;
+    for (i, place) in order.iter_mut().enumerate() {
+        *place = 1000 + i;
     }
     read_at_most(rt, order.len())
 }
 
 // ---- what a line holds
 
-fn print_outcome(rt: &impl Print, outcome: Outcome) -> io::Result<()> {
+// 0, or the refusal's number.
+fn print_outcome<T, E: Numbered + Copy>(rt: &impl Print, answer: &Result<T, E>) -> io::Result<()> {
     cases::print_word(
         rt,
-        match outcome {
-            Outcome::Accepted => 0,
-            Outcome::NonFinite => 2,
-            Outcome::OutOfOrder => 3,
-            Outcome::Duplicate => 4,
-            Outcome::InvalidNoise => 6,
-            Outcome::AngleRange => 8,
-            Outcome::BadLength => 12,
-            Outcome::TooMany => 13,
-            Outcome::NoRoom => 14,
+        match answer {
+            Ok(_) => 0,
+            Err(why) => (*why).number(),
         },
     )
 }
@@ -304,32 +255,23 @@ fn print_places(rt: &impl Print, order: &[usize]) -> io::Result<()> {
 }
 
 fn print_motion(rt: &(impl Input + Print), kind: u64, state: PreintegratedImu) -> io::Result<()> {
-    let rotation = state.delta_rotation;
-    let velocity = state.delta_velocity;
-    let position = state.delta_position;
-    cases::print_near(rt, kind, &rotation)?;
-    cases::print_near(rt, kind, &velocity)?;
-    cases::print_near(rt, kind, &position)?;
+    cases::print_near(rt, kind, &state.delta_rotation)?;
+    cases::print_near(rt, kind, &state.delta_velocity)?;
+    cases::print_near(rt, kind, &state.delta_position)?;
     cases::print_numbers(rt, &[state.dt])
 }
 
 fn print_state(rt: &(impl Input + Print), kind: u64, state: PreintegratedImu) -> io::Result<()> {
-    let bias = state.bias;
-    let calib = state.calib;
-    let covariance = state.covariance;
-    let bias_covariance = state.bias_covariance;
     print_motion(rt, kind, state)?;
-    print_parameters(rt, bias, calib)?;
-    cases::print_near(rt, kind, &covariance)?;
-    cases::print_near(rt, kind, &bias_covariance)?;
+    print_parameters(rt, state.bias, state.calib)?;
+    cases::print_near(rt, kind, &state.covariance)?;
+    cases::print_near(rt, kind, &state.bias_covariance)?;
     print_jacobians(rt, kind, state)
 }
 
 fn print_parameters(rt: &impl Print, bias: ImuBias, c: ImuCalib) -> io::Result<()> {
-    let gyro = bias.gyro;
-    let accel = bias.accel;
-    cases::print_numbers(rt, &gyro)?;
-    cases::print_numbers(rt, &accel)?;
+    cases::print_numbers(rt, &bias.gyro)?;
+    cases::print_numbers(rt, &bias.accel)?;
     cases::print_numbers(
         rt,
         &[
@@ -341,23 +283,14 @@ fn print_parameters(rt: &impl Print, bias: ImuBias, c: ImuCalib) -> io::Result<(
     )
 }
 
-fn print_nine(rt: &(impl Input + Print), kind: u64, m: [f64; 9]) -> io::Result<()> {
-    cases::print_near(rt, kind, &m)
-}
-
 fn print_jacobians(
     rt: &(impl Input + Print),
     kind: u64,
     state: PreintegratedImu,
 ) -> io::Result<()> {
-    let rg = state.d_rotation_d_bias_gyro;
-    let vg = state.d_velocity_d_bias_gyro;
-    let va = state.d_velocity_d_bias_accel;
-    let pg = state.d_position_d_bias_gyro;
-    let pa = state.d_position_d_bias_accel;
-    print_nine(rt, kind, rg)?;
-    print_nine(rt, kind, vg)?;
-    print_nine(rt, kind, va)?;
-    print_nine(rt, kind, pg)?;
-    print_nine(rt, kind, pa)
+    cases::print_near(rt, kind, &state.d_rotation_d_bias_gyro)?;
+    cases::print_near(rt, kind, &state.d_velocity_d_bias_gyro)?;
+    cases::print_near(rt, kind, &state.d_velocity_d_bias_accel)?;
+    cases::print_near(rt, kind, &state.d_position_d_bias_gyro)?;
+    cases::print_near(rt, kind, &state.d_position_d_bias_accel)
 }

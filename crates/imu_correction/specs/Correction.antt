@@ -1,17 +1,17 @@
 -- 01, Inertial accumulation: the deltas at another bias, to first order, and the prediction.
-use Rattle.std.specs.Prelude.{Bool, not, ◌&&◌, List, Float}
+use Rattle.std.specs.Prelude.{Result, Bool, not, ◌&&◌, List, Float}
 use Rattle.number.specs.Float.{◌when◌else◌, finite}
-use Rattle.number.specs.Said.{Told, accepts, refuses}
+use Rattle.number.specs.Said.{Told, accepts, refuses, told_result}
+use Rattle.number.specs.declared.refusal.Refusal.{Refusal}
+use Rattle.number.specs.Refusals.{row_of}
+use Rattle.sincos.specs.declared.Refusal.{Refusal as TurnRefusal}
+use Rattle.sincos.specs.Refusals.{row_of as row_of_turn}
 use Rattle.sincos.specs.Turn.{above_four}
 use Rattle.mat3.specs.Matrix.{zeros, product, transform, finite_matrix}
 use Rattle.vec3.specs.Vector.{zero_vector, vector_sum, vector_difference, vector_scaled, finite_vector}
 use Rattle.inertial.specs.declared.ImuBias.{ImuBias}
 use Rattle.imu.specs.declared.PreintegratedImu.{PreintegratedImu}
-use Rattle.imu_correction.specs.declared.CorrectedRotation.{CorrectedRotation}
-use Rattle.imu_correction.specs.declared.CorrectedVector.{CorrectedVector}
-use Rattle.imu_correction.specs.declared.Prediction.{Prediction}
-use Rattle.imu_correction.specs.declared.Predicted.{Predicted}
-use Rattle.imu.specs.Answers.{told_with}
+use Rattle.imu_step.specs.declared.Motion.{Motion}
 use Rattle.imu.specs.State.{finite_bias}
 use Rattle.rotation.specs.Rotation.{increment_of}
 use Rattle.imu_step.specs.Parts.{half_square}
@@ -57,33 +57,33 @@ corrected_of b x =
     refuses 2 zero_vector when not (finite_vector x) else
     accepts x
 
-abbrev pub told_rotation : CorrectedRotation → Told (List Float)
-told_rotation r = told_with r.outcome r.rotation
+abbrev pub told_rotation : Result (List Float) TurnRefusal → Told (List Float)
+told_rotation r = told_result row_of_turn zeros r
 
-abbrev pub told_vector : CorrectedVector → Told (List Float)
-told_vector r = told_with r.outcome r.vector
+abbrev pub told_vector : Result (List Float) Refusal → Told (List Float)
+told_vector r = told_result row_of zero_vector r
 
 -- ---- prediction: "2 for an argument, 2 for the result"
 
 -- R_k · ΔR, v_k + g·dt + R_k · Δv, p_k + v_k·dt + ½·g·dt² + R_k · Δp
-unfoldable pub predicted_state : PreintegratedImu → (r v p g : List Float) → Prediction
+unfoldable pub predicted_state : PreintegratedImu → (r v p g : List Float) → Motion
 predicted_state s r v p g = record {
   rotation = product r s.delta_rotation;
   velocity = vector_sum (vector_sum v (vector_scaled g s.dt)) (transform r s.delta_velocity);
   position = vector_sum (vector_sum (vector_sum p (vector_scaled v s.dt)) (vector_scaled g (half_square s.dt))) (transform r s.delta_position);
 }
 
-unfoldable pub finite_prediction : Prediction → Bool
+unfoldable pub finite_prediction : Motion → Bool
 finite_prediction q = finite_matrix q.rotation && finite_vector q.velocity && finite_vector q.position
 
-abbrev pub no_prediction : Prediction
+abbrev pub no_prediction : Motion
 no_prediction = record { rotation = zeros; velocity = zero_vector; position = zero_vector }
 
-unfoldable pub predict_of : PreintegratedImu → (r v p g : List Float) → Told Prediction
+unfoldable pub predict_of : PreintegratedImu → (r v p g : List Float) → Told Motion
 predict_of s r v p g =
     refuses 2 no_prediction when not (finite_matrix r && finite_vector v && finite_vector p && finite_vector g) else
     refuses 2 no_prediction when not (finite_prediction (predicted_state s r v p g)) else
     accepts (predicted_state s r v p g)
 
-abbrev pub told_predicted : Predicted → Told Prediction
-told_predicted r = told_with r.outcome r.state
+abbrev pub told_predicted : Result Motion Refusal → Told Motion
+told_predicted r = told_result row_of no_prediction r

@@ -2,7 +2,9 @@
 // kornia's imu.rs.
 #![tactic(auto)]
 
-ghost use Rattle.std.specs.Prelude.{◌≡◌};
+ghost use Rattle.std.specs.Prelude.{◌≡◌, ◌&&◌};
+ghost use Rattle.mat3.specs.Matrix.{finite_matrix};
+ghost use Rattle.vec3.specs.Vector.{finite_vector};
 ghost use Rattle.imu_step.specs.Inside.Lean.{lean_covariance_after};
 ghost use Rattle.imu_step.specs.Parts.{half_square, less_half_square, less_times, matrix_a, matrix_b, matrix_n, motion_after, position_after, position_by_accel, position_by_gyro, rotation_after, rotation_by_gyro, velocity_after, velocity_by_accel, velocity_by_gyro};
 
@@ -15,6 +17,23 @@ pub struct Motion {
     pub rotation: [f64; 9],
     pub velocity: [f64; 3],
     pub position: [f64; 3],
+}
+
+impl Motion {
+    // Stands where there is none.
+    pub const BLANK: Motion = Motion {
+        rotation: [0.0, 0.0, 0.0, 0.0, 0.0, 0.0, 0.0, 0.0, 0.0],
+        velocity: [0.0, 0.0, 0.0],
+        position: [0.0, 0.0, 0.0],
+    };
+
+    pub fn is_finite(self) -> bool
+        ensures { result ≡ (finite_matrix self.rotation && finite_vector self.velocity && finite_vector self.position) }
+    {
+        mat3::is_finite(self.rotation)
+            & vec3::is_finite_vector(self.velocity)
+            & vec3::is_finite_vector(self.position)
+    }
 }
 
 pub fn half_square(dt: f64) -> f64
@@ -34,8 +53,7 @@ fn less_times(g: [f64; 9], dt: f64) -> [f64; 9]
 fn less_half_square(g: [f64; 9], dt: f64) -> [f64; 9]
     ensures { result ≡ less_half_square g dt }
 {
-    let half = 0.5;
-    mat3::scaled(g, -half * dt * dt)
+    mat3::scaled(g, -0.5 * dt * dt)
 }
 
 // How an error of the state before grows into one of the state after.
@@ -96,10 +114,8 @@ pub fn covariance_after(
 ) -> [f64; 81]
     ensures { result ≡ lean_covariance_after before.now calib rotation d g dt }
 {
-    let exp = d.exp;
-    let jacobian = d.jacobian;
-    let a = matrix_a(exp, g, dt);
-    let b = matrix_b(jacobian, rotation, dt);
+    let a = matrix_a(d.exp, g, dt);
+    let b = matrix_b(d.jacobian, rotation, dt);
     let n = matrix_n(calib, dt);
     lean9::carried(&a, before, &b, &n)
 }
@@ -142,11 +158,9 @@ pub fn velocity_by_accel(va: [f64; 9], rotation: [f64; 9], dt: f64) -> [f64; 9]
 pub fn rotation_by_gyro(rg: [f64; 9], d: Increment, dt: f64) -> [f64; 9]
     ensures { result ≡ rotation_by_gyro rg d dt }
 {
-    let exp = d.exp;
-    let jacobian = d.jacobian;
     mat3::difference(
-        mat3::product(mat3::transpose(exp), rg),
-        mat3::scaled(jacobian, dt),
+        mat3::product(mat3::transpose(d.exp), rg),
+        mat3::scaled(d.jacobian, dt),
     )
 }
 
@@ -171,8 +185,7 @@ fn velocity_after(velocity: [f64; 3], u: [f64; 3], dt: f64) -> [f64; 3]
 fn rotation_after(rotation: [f64; 9], d: Increment) -> [f64; 9]
     ensures { result ≡ rotation_after rotation d }
 {
-    let exp = d.exp;
-    rotation::normalized(mat3::product(rotation, exp))
+    rotation::normalized(mat3::product(rotation, d.exp))
 }
 
 // The motion after dt seconds of the acceleration a and the turn d. Every line uses values from before the step.
@@ -180,14 +193,11 @@ fn rotation_after(rotation: [f64; 9], d: Increment) -> [f64; 9]
 pub fn motion_after(before: Motion, d: Increment, a: [f64; 3], dt: f64) -> Motion
     ensures { result ≡ motion_after before d a dt }
 {
-    let rotation = before.rotation;
-    let velocity = before.velocity;
-    let position = before.position;
-    let turned = rotation_after(rotation, d);
-    let u = mat3::transform(rotation, a);
+    let turned = rotation_after(before.rotation, d);
+    let u = mat3::transform(before.rotation, a);
     Motion {
         rotation: turned,
-        velocity: velocity_after(velocity, u, dt),
-        position: position_after(position, velocity, u, dt),
+        velocity: velocity_after(before.velocity, u, dt),
+        position: position_after(before.position, before.velocity, u, dt),
     }
 }

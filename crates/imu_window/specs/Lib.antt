@@ -1,4 +1,5 @@
 -- 01, Inertial accumulation: batches and windows.
+pub mod Refusals
 pub mod Batch
 pub mod Window
 pub mod Statements

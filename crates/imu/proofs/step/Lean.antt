@@ -17,7 +17,7 @@ use Rattle.imu_step.proofs.Agrees.{covariance_agrees}
 use Rattle.imu.specs.declared.PreintegratedImu.{PreintegratedImu}
 use Rattle.imu.specs.Inside.Lean.{lean_advanced_by}
 use Rattle.imu.specs.State.{finite_bias, finite_calib, finite_jacobians, finite_motion, finite_state}
-use Rattle.imu.specs.Step.{accel_in, advanced, advanced_by, advanced_with, angle_in, rotated_hat, turn_in}
+use Rattle.imu.specs.Step.{accel_in, advanced, advanced_by, advanced_with, rotated_hat, turn_in}
 
 -- ---- with either covariance
 
@@ -50,10 +50,6 @@ module _ (s : PreintegratedImu) (d : Increment) (a : List Float) (dt : Float) wh
 -- ---- of what the calls of a step give
 
 module _ (s : PreintegratedImu) (m : ImuMeasurement) (dt : Float) {turn : List Float} {d : Increment} (e : turn ≡ turn_in s m dt) (f : d ≡ increment_of turn) where
-  pub angle_is : angle_in s m dt ≡ d.angle
-  unfolding angle_in
-  angle_is = rw (f, e)
-
   module _ {a : List Float} {x : PreintegratedImu} (g : a ≡ accel_in s m) (h : x ≡ lean_advanced_by s d a dt) (p : finite dt ≡ true) where
     advanced_is : advanced s m dt ≡ advanced_by s d a dt
     unfolding advanced
