@@ -2,6 +2,7 @@
 pub mod All
 pub mod Below
 pub mod Cases
+pub mod Chunks
 pub mod Filled
 pub mod Tabulated
 pub mod Refusals
