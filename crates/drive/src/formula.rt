@@ -80,7 +80,9 @@ pub fn rates_between(
             let dr = number::tick_difference(drive.counter_width, right, r);
             rates_from_ticks(per_tick, dl, dr, dt)
         }
-        (Reading::AngularVelocity(left, right), Reading::AngularVelocity(l, r)) => mean_rates(left, right, l, r),
+        (Reading::AngularVelocity(left, right), Reading::AngularVelocity(l, r)) => mean_rates(
+            left, right, l, r,
+        ),
         _ => WheelRates {
             left: 0.0,
             right: 0.0,

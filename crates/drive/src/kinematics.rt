@@ -71,7 +71,12 @@ impl DifferentialDrive {
 
     // Mean wheel rates from a change of so many encoder counts over dt seconds.
     #[tactic(auto, unfolding(crate::specs::Drive::rates_asked))]
-    pub fn wheel_rates_from_ticks(self, left: i64, right: i64, dt: f64) -> Result<WheelRates, Refusal>
+    pub fn wheel_rates_from_ticks(
+        self,
+        left: i64,
+        right: i64,
+        dt: f64,
+    ) -> Result<WheelRates, Refusal>
         ensures { said_rated result ≡ rates_asked self left right dt }
     {
         if !self.is_valid() {

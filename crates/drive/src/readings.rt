@@ -33,7 +33,10 @@ impl Reading {
         matches!(
             (self, other),
             (Reading::Ticks(_, _), Reading::Ticks(_, _))
-                | (Reading::AngularVelocity(_, _), Reading::AngularVelocity(_, _))
+                | (
+                    Reading::AngularVelocity(_, _),
+                    Reading::AngularVelocity(_, _)
+                )
         )
     }
 }

@@ -3,8 +3,8 @@ ghost use Rattle.std.specs.Prelude.{◌≡◌};
 ghost use Rattle.planar.specs.Compose.{compose_of, told_composed};
 ghost use Rattle.planar.specs.Motion.{finite_motion};
 
-use crate::formula::composed;
 use crate::PlanarMotion;
+use crate::formula::composed;
 use sincos::Refusal;
 
 impl PlanarMotion {

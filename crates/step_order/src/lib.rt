@@ -9,7 +9,11 @@ use interval::Interval;
 
 // What of a reading is refused whatever came before it.
 #[tactic(auto, unfolding(crate::specs::Order::reading_fits))]
-pub fn reading_fits(drive: DifferentialDrive, noise: WheelNoise, m: WheelMeasurement) -> Result<(), Refusal>
+pub fn reading_fits(
+    drive: DifferentialDrive,
+    noise: WheelNoise,
+    m: WheelMeasurement,
+) -> Result<(), Refusal>
     ensures { said_fit result ≡ reading_fits drive noise m }
 {
     if !noise.is_valid() {
