@@ -76,19 +76,6 @@ pub fn read_array<const N: usize>(rt: &impl Input) -> [f64; N] {
     std::array::from_fn(|_| read_f64(rt))
 }
 
-pub fn read_three(rt: &impl Input) -> [f64; 3] {
-    let mut out = [0.0; 3];
-    read_numbers(rt, &mut out);
-    out
-}
-
-// A matrix, column by column.
-pub fn read_nine(rt: &impl Input) -> [f64; 9] {
-    let mut out = [0.0; 9];
-    read_numbers(rt, &mut out);
-    out
-}
-
 pub fn read_calib(rt: &impl Input) -> ImuCalib {
     ImuCalib {
         gyro_noise: read_f64(rt),

@@ -148,10 +148,10 @@ fn print_answer<const N: usize, E: Numbered + Copy>(
 }
 
 fn ask_prediction(rt: &(impl Input + Print), kind: u64, state: PreintegratedImu) -> io::Result<()> {
-    let r = cases::read_nine(rt);
-    let v = cases::read_three(rt);
-    let p = cases::read_three(rt);
-    let answer = imu_correction::predict(state, r, v, p, cases::read_three(rt));
+    let r = cases::read_array(rt);
+    let v = cases::read_array(rt);
+    let p = cases::read_array(rt);
+    let answer = imu_correction::predict(state, r, v, p, cases::read_array(rt));
     print_outcome(rt, &answer)?;
     let next = answer.unwrap_or(Motion::BLANK);
     cases::print_near(rt, kind, &next.rotation)?;
@@ -162,15 +162,15 @@ fn ask_prediction(rt: &(impl Input + Print), kind: u64, state: PreintegratedImu)
 // ---- what a record holds
 
 fn read_bias(rt: &impl Input) -> ImuBias {
-    let gyro = cases::read_three(rt);
-    let accel = cases::read_three(rt);
+    let gyro = cases::read_array(rt);
+    let accel = cases::read_array(rt);
     ImuBias { gyro, accel }
 }
 
 fn read_measurement(rt: &impl Input) -> ImuMeasurement {
     let timestamp = cases::read_f64(rt);
-    let gyro = cases::read_three(rt);
-    let accel = cases::read_three(rt);
+    let gyro = cases::read_array(rt);
+    let accel = cases::read_array(rt);
     ImuMeasurement {
         timestamp,
         gyro,
@@ -179,16 +179,14 @@ fn read_measurement(rt: &impl Input) -> ImuMeasurement {
 }
 
 fn read_state(rt: &impl Input) -> PreintegratedImu {
-    let delta_rotation = cases::read_nine(rt);
-    let delta_velocity = cases::read_three(rt);
-    let delta_position = cases::read_three(rt);
+    let delta_rotation = cases::read_array(rt);
+    let delta_velocity = cases::read_array(rt);
+    let delta_position = cases::read_array(rt);
     let dt = cases::read_f64(rt);
     let bias = read_bias(rt);
     let calib = cases::read_calib(rt);
-    let mut covariance = [0.0; 81];
-    cases::read_numbers(rt, &mut covariance);
-    let mut bias_covariance = [0.0; 36];
-    cases::read_numbers(rt, &mut bias_covariance);
+    let covariance = cases::read_array(rt);
+    let bias_covariance = cases::read_array(rt);
     PreintegratedImu {
         delta_rotation,
         delta_velocity,
@@ -198,11 +196,11 @@ fn read_state(rt: &impl Input) -> PreintegratedImu {
         calib,
         covariance,
         bias_covariance,
-        d_rotation_d_bias_gyro: cases::read_nine(rt),
-        d_velocity_d_bias_gyro: cases::read_nine(rt),
-        d_velocity_d_bias_accel: cases::read_nine(rt),
-        d_position_d_bias_gyro: cases::read_nine(rt),
-        d_position_d_bias_accel: cases::read_nine(rt),
+        d_rotation_d_bias_gyro: cases::read_array(rt),
+        d_velocity_d_bias_gyro: cases::read_array(rt),
+        d_velocity_d_bias_accel: cases::read_array(rt),
+        d_position_d_bias_gyro: cases::read_array(rt),
+        d_position_d_bias_accel: cases::read_array(rt),
     }
 }
 
