@@ -133,6 +133,7 @@ fn walk(density: f64, seconds: f64) -> f64
     density * density * seconds
 }
 
+// The four are written out, here and below: a closure over the densities is no shorter, and `all` would stop at the first, where these do not branch.
 #[tactic(auto, unfolding(crate::specs::State::valid_calib))]
 fn is_valid_calib(calib: ImuCalib) -> bool
     ensures { result ≡ valid_calib calib }

@@ -42,6 +42,8 @@ pub fn half_square(dt: f64) -> f64
     0.5 * dt * dt
 }
 
+// The functions from here on are alike in form only: each is one line of the file's update, and the definition of its name in specs/Parts.antt.
+
 // −ΔR·[a]×·dt, of g = ΔR·[a]×.
 fn less_times(g: [f64; 9], dt: f64) -> [f64; 9]
     ensures { result ≡ less_times g dt }
