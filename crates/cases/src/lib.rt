@@ -7,6 +7,7 @@ ghost use Rattle.std.specs.Iterator.{at_most};
 ghost use Rattle.io.specs.Counts.{IsPrefixLen};
 
 use inertial::ImuCalib;
+use number::Numbered;
 use std::io;
 use std::io::Read;
 
@@ -95,6 +96,17 @@ pub fn print_word(rt: &impl Print, word: u64) -> io::Result<()> {
     print!(rt; " {word:016x}")
 }
 
+// What became of a call: 0, or the number of its refusal.
+pub fn print_outcome<T, E: Numbered + Copy>(
+    rt: &impl Print,
+    answer: &Result<T, E>,
+) -> io::Result<()> {
+    match answer {
+        Ok(_) => print_word(rt, 0),
+        Err(why) => print_word(rt, (*why).number()),
+    }
+}
+
 pub fn print_numbers(rt: &impl Print, xs: &[f64]) -> io::Result<()> {
     for x in xs {
         print_word(rt, words::to_bits(*x))?;
@@ -109,6 +121,18 @@ pub fn print_near(rt: &(impl Input + Print), kind: u64, xs: &[f64]) -> io::Resul
     } else {
         print_numbers(rt, xs)
     }
+}
+
+// A planar motion: the place, the heading and the covariance, each held against others by itself.
+pub fn print_motion(
+    rt: &(impl Input + Print),
+    kind: u64,
+    delta: &[f64; 3],
+    covariance: &[f64; 9],
+) -> io::Result<()> {
+    print_near(rt, kind, &delta[..2])?;
+    print_near(rt, kind, &delta[2..])?;
+    print_near(rt, kind, covariance)
 }
 
 fn print_held(rt: &(impl Input + Print), xs: &[f64], tolerance: f64) -> io::Result<()> {

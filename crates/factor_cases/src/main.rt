@@ -35,6 +35,7 @@ fn main(rt: HostRuntime) -> io::Result<()> {
     Ok(())
 }
 
+// The kind is matched as the number that the input has: an enum of the kinds would be the list above a second time.
 fn ask(rt: &(impl Input + Print), kind: u64) -> io::Result<()> {
     match kind % 100 {
         2 => ask_measurements(rt),
@@ -64,19 +65,19 @@ fn ask_measurements(rt: &(impl Input + Print)) -> io::Result<()> {
         plain.with_out_of_plane_sigmas(full.z_sigma, full.tilt_sigma),
     )?;
     print_measurement(rt, 2, WheelOdomMeasurement::from(motion))?;
-    print_motion(rt, 2, motion)
+    cases::print_motion(rt, 2, &motion.delta, &motion.covariance)
 }
 
 fn ask_information(rt: &(impl Input + Print), kind: u64) -> io::Result<()> {
     let informed = read_measurement(rt).information();
-    print_outcome(rt, informed)?;
+    cases::print_outcome(rt, &informed)?;
     cases::print_near(rt, kind, &informed.unwrap_or([0.0; 36]))
 }
 
 fn ask_composed(rt: &(impl Input + Print), kind: u64) -> io::Result<()> {
     let first = read_measurement(rt);
     let composed = first.compose(read_measurement(rt));
-    print_outcome(rt, composed)?;
+    cases::print_outcome(rt, &composed)?;
     print_measurement(rt, kind, composed.unwrap_or(WheelOdomMeasurement::BLANK))
 }
 
@@ -88,7 +89,7 @@ fn ask_factor_valid(rt: &(impl Input + Print)) -> io::Result<()> {
 fn ask_factors_composed(rt: &(impl Input + Print), kind: u64) -> io::Result<()> {
     let first = read_factor(rt);
     let composed = first.compose(read_factor(rt));
-    print_outcome(rt, composed)?;
+    cases::print_outcome(rt, &composed)?;
     print_factor(rt, kind, composed.unwrap_or(WheelOdomFactor::BLANK))
 }
 
@@ -109,14 +110,14 @@ fn ask_still_information(rt: &(impl Input + Print)) -> io::Result<()> {
     let f = read_still(rt);
     let informed = stationary_information::information(f);
     cases::print_word(rt, f.is_valid() as u64)?;
-    print_outcome(rt, informed)?;
+    cases::print_outcome(rt, &informed)?;
     print_info(rt, informed.unwrap_or(StationaryInfo::BLANK))
 }
 
 fn ask_still_composed(rt: &(impl Input + Print)) -> io::Result<()> {
     let first = read_still(rt);
     let composed = first.compose(read_still(rt));
-    print_outcome(rt, composed)?;
+    cases::print_outcome(rt, &composed)?;
     match composed {
         Ok(f) => print_still(rt, f),
         Err(_) => Ok(()),
@@ -215,26 +216,12 @@ fn read_still(rt: &impl Input) -> StationaryFactor {
 
 // ---- what a line holds
 
-fn print_outcome<T: Copy, E: Copy + Numbered>(
-    rt: &impl Print,
-    answer: Result<T, E>,
-) -> io::Result<()> {
-    cases::print_word(rt, answer.err().map_or(0, |refusal| refusal.number()))
-}
-
-fn print_motion(rt: &(impl Input + Print), kind: u64, motion: PlanarMotion) -> io::Result<()> {
-    let [x, y, heading] = motion.delta;
-    cases::print_near(rt, kind, &[x, y])?;
-    cases::print_near(rt, kind, &[heading])?;
-    cases::print_near(rt, kind, &motion.covariance)
-}
-
 fn print_measurement(
     rt: &(impl Input + Print),
     kind: u64,
     m: WheelOdomMeasurement,
 ) -> io::Result<()> {
-    print_motion(rt, kind, m.planar_motion())?;
+    cases::print_motion(rt, kind, &m.delta, &m.covariance)?;
     cases::print_near(rt, kind, &[m.z_sigma])?;
     cases::print_near(rt, kind, &[m.tilt_sigma])
 }

@@ -39,6 +39,7 @@ fn main(rt: HostRuntime) -> io::Result<()> {
     Ok(())
 }
 
+// The kind is matched as the number that the input has: an enum of the kinds would be the list above a second time.
 fn after_record(
     rt: &(impl Input + Print),
     kind: u64,
@@ -64,18 +65,18 @@ fn after_record(
 fn make(rt: &(impl Input + Print), state: &mut PreintegratedImu) -> io::Result<()> {
     let bias = read_bias(rt);
     let answer = PreintegratedImu::new(bias, cases::read_calib(rt));
-    print_outcome(rt, &answer)?;
+    cases::print_outcome(rt, &answer)?;
     *state = answer.unwrap_or(PreintegratedImu::BLANK);
     Ok(())
 }
 
 fn step(rt: &(impl Input + Print), state: &mut PreintegratedImu) -> io::Result<()> {
     let m = read_measurement(rt);
-    print_outcome(rt, &state.integrate(m, cases::read_f64(rt)))
+    cases::print_outcome(rt, &state.integrate(m, cases::read_f64(rt)))
 }
 
 fn widen(rt: &(impl Input + Print), state: &mut PreintegratedImu) -> io::Result<()> {
-    print_outcome(rt, &state.widen_bias_walk(cases::read_f64(rt)))
+    cases::print_outcome(rt, &state.widen_bias_walk(cases::read_f64(rt)))
 }
 
 fn integrate_batch(rt: &(impl Input + Print), state: &mut PreintegratedImu) -> io::Result<()> {
@@ -114,6 +115,7 @@ fn integrate_window(rt: &(impl Input + Print), state: &mut PreintegratedImu) -> 
 
 // ---- what is asked, and leaves the state
 
+// The kind is matched as the number that the input has: an enum of the kinds would be the list above a second time.
 fn ask(rt: &(impl Input + Print), kind: u64, state: PreintegratedImu) -> io::Result<()> {
     match kind % 100 {
         8 => print_answer(
@@ -143,7 +145,7 @@ fn print_answer<const N: usize, E: Numbered + Copy>(
     kind: u64,
     answer: Result<[f64; N], E>,
 ) -> io::Result<()> {
-    print_outcome(rt, &answer)?;
+    cases::print_outcome(rt, &answer)?;
     cases::print_near(rt, kind, &answer.unwrap_or([0.0; N]))
 }
 
@@ -152,7 +154,7 @@ fn ask_prediction(rt: &(impl Input + Print), kind: u64, state: PreintegratedImu)
     let v = cases::read_array(rt);
     let p = cases::read_array(rt);
     let answer = imu_correction::predict(state, r, v, p, cases::read_array(rt));
-    print_outcome(rt, &answer)?;
+    cases::print_outcome(rt, &answer)?;
     let next = answer.unwrap_or(Motion::BLANK);
     cases::print_near(rt, kind, &next.rotation)?;
     cases::print_near(rt, kind, &next.velocity)?;
@@ -235,16 +237,6 @@ fn read_places(rt: &impl Input, order: &mut [usize]) -> usize
 // ---- what a line holds
 
 // 0, or the refusal's number.
-fn print_outcome<T, E: Numbered + Copy>(rt: &impl Print, answer: &Result<T, E>) -> io::Result<()> {
-    cases::print_word(
-        rt,
-        match answer {
-            Ok(_) => 0,
-            Err(why) => (*why).number(),
-        },
-    )
-}
-
 fn print_places(rt: &impl Print, order: &[usize]) -> io::Result<()> {
     for place in order {
         cases::print_word(rt, *place as u64)?;

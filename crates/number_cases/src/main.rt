@@ -11,7 +11,6 @@
 // each held against another behind a tolerance.
 #![tactic(auto)]
 
-use number::Numbered;
 use std::io;
 
 fn main(rt: HostRuntime) -> io::Result<()> {
@@ -23,6 +22,7 @@ fn main(rt: HostRuntime) -> io::Result<()> {
     Ok(())
 }
 
+// The kind is matched as the number that the input has: an enum of the kinds would be the list above a second time.
 fn ask(rt: &(impl Input + Print), kind: u64) -> io::Result<()> {
     match kind % 100 {
         1 => cases::print_numbers(rt, &[number::whole_to_f64(read_tick(rt))]),
@@ -48,23 +48,23 @@ fn ask_range(rt: &(impl Input + Print)) -> io::Result<()> {
 }
 
 fn ask_root(rt: &(impl Input + Print)) -> io::Result<()> {
-    match root::sqrt(cases::read_f64(rt)) {
-        Ok(r) => {
-            cases::print_word(rt, 0)?;
-            cases::print_numbers(rt, &[r])
-        }
-        Err(why) => cases::print_word(rt, why.number()),
+    let answer = root::sqrt(cases::read_f64(rt));
+    cases::print_outcome(rt, &answer)?;
+    match answer {
+        Ok(r) => cases::print_numbers(rt, &[r]),
+        Err(_) => Ok(()),
     }
 }
 
 fn ask_turn(rt: &(impl Input + Print), kind: u64) -> io::Result<()> {
-    match sincos::sin_cos(cases::read_f64(rt)) {
+    let answer = sincos::sin_cos(cases::read_f64(rt));
+    cases::print_outcome(rt, &answer)?;
+    match answer {
         Ok(v) => {
-            cases::print_word(rt, 0)?;
             cases::print_near(rt, kind, &[v.sin])?;
             cases::print_near(rt, kind, &[v.cos])
         }
-        Err(why) => cases::print_word(rt, why.number()),
+        Err(_) => Ok(()),
     }
 }
 

@@ -11,7 +11,8 @@ pub const READING: usize = 26;
 
 pub const PARAMETERS: usize = 56;
 
-// What kind of reading it is: 0 of ticks, 1 of rates.
+// What kind of reading it is: 0 of ticks, 1 of rates. The byte itself and no enum, as its contract says: a record may have any other, which an event and the
+// words on a bad log tell apart.
 pub fn kind_of(s: &[u8]) -> u64
     ensures { result ≡ kind_of s.now }
 {

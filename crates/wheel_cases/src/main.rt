@@ -46,6 +46,7 @@ fn main(rt: HostRuntime) -> io::Result<()> {
 
 // ---- the calls that change the state
 
+// The kind is matched as the number that the input has: an enum of the kinds would be the list above a second time.
 fn call(rt: &(impl Input + Print), kind: u64, state: &mut WheelPreintegration) -> io::Result<()> {
     match kind % 100 {
         2 | 3 => begin(rt, kind % 100, state),
@@ -84,6 +85,7 @@ fn run(rt: &(impl Input + Print), state: &mut WheelPreintegration) -> io::Result
 
 // ---- what a line has behind it: the state, or what is asked and leaves it
 
+// The kind is matched as the number that the input has: an enum of the kinds would be the list above a second time.
 fn print_after(rt: &(impl Input + Print), kind: u64, state: WheelPreintegration) -> io::Result<()> {
     match kind % 100 {
         0 | 1 | 8..=11 => ask(rt, kind, state.settings.drive, state.motion()),
@@ -91,6 +93,7 @@ fn print_after(rt: &(impl Input + Print), kind: u64, state: WheelPreintegration)
     }
 }
 
+// The kind is matched as the number that the input has: an enum of the kinds would be the list above a second time.
 fn ask(
     rt: &(impl Input + Print),
     kind: u64,
@@ -146,11 +149,9 @@ fn ask_jacobian(rt: &(impl Input + Print), drive: DifferentialDrive) -> io::Resu
 // The stored motion, then the record's; beside a refusal stands no motion.
 fn ask_composed(rt: &(impl Input + Print), kind: u64, stored: PlanarMotion) -> io::Result<()> {
     let composed = stored.compose(read_motion(rt));
-    match composed {
-        Ok(_) => cases::print_word(rt, 0)?,
-        Err(why) => cases::print_word(rt, why.number())?,
-    }
-    print_motion(rt, kind, composed.unwrap_or(PlanarMotion::IDENTITY))
+    cases::print_outcome(rt, &composed)?;
+    let motion = composed.unwrap_or(PlanarMotion::IDENTITY);
+    cases::print_motion(rt, kind, &motion.delta, &motion.covariance)
 }
 
 // ---- what a record holds behind its kind
@@ -272,7 +273,8 @@ fn print_refusal(rt: &impl Print, why: Refusal) -> io::Result<()> {
 fn print_state(rt: &(impl Input + Print), kind: u64, state: WheelPreintegration) -> io::Result<()> {
     print_settings(rt, state.settings)?;
     print_kept(rt, kind, state.kept)?;
-    print_motion(rt, kind % 200, state.motion())?;
+    let motion = state.motion();
+    cases::print_motion(rt, kind % 200, &motion.delta, &motion.covariance)?;
     cases::print_numbers(rt, &[state.dt()])?;
     print_last(rt, state.last)
 }
@@ -299,12 +301,6 @@ fn print_kept(rt: &impl Print, kind: u64, kept: KeptValues) -> io::Result<()> {
         cases::print_numbers(rt, &[kept.radians_per_tick])?;
     }
     Ok(())
-}
-
-fn print_motion(rt: &(impl Input + Print), kind: u64, motion: PlanarMotion) -> io::Result<()> {
-    cases::print_near(rt, kind, &motion.delta[..2])?;
-    cases::print_near(rt, kind, &motion.delta[2..])?;
-    cases::print_near(rt, kind, &motion.covariance)
 }
 
 fn print_last(rt: &impl Print, last: Option<WheelMeasurement>) -> io::Result<()> {
