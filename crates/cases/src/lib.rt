@@ -13,7 +13,8 @@ use std::io::Read;
 
 // ---- reading, from standard input; a read that fails counts as the end of the input
 
-// Reads until out is full or the input ends, and answers how many bytes stand at the front of out. Those behind them are left as they are.
+// Reads until out is full or the input ends, and answers how many bytes stand at the front of out. Those behind them are left as they are. They are counted,
+// since each read says how many bytes more there are.
 pub fn read_full(input: &mut impl Read, out: &mut [u8]) -> usize
     ensures { IsPrefixLen result out.new }
 {

@@ -39,7 +39,8 @@ pub struct WheelRates {
     pub right: f64,
 }
 
-// How the twist moves with the left and with the right rate.
+// How the twist moves with the left and with the right rate. It and `WheelRates` are two records, as in the definitions: one for any content would say of
+// neither what it holds.
 #[derive(Clone, Copy)]
 pub struct TwistColumns {
     pub left: BodyTwist,
@@ -65,7 +66,7 @@ pub struct WheelNoise {
     pub lateral_velocity: f64,
 }
 
-// Why a reading, a drive or a noise is refused. The number and the values of each case are in specs/Refusals.antt.
+// Why a reading, a drive or a noise is refused. The number and the values of each case are in specs/Refusals.antt. No `Eq`, since two cases carry f64s.
 #[derive(Clone, Copy, Debug, PartialEq)]
 pub enum Refusal {
     // The reading is flagged invalid.

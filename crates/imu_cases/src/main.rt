@@ -212,7 +212,7 @@ fn read_at_most(rt: &impl Input, most: usize) -> usize
     (cases::read_word(rt) as usize).min(most)
 }
 
-// How many numbers the samples are. The buffer holds zeros before, and the first of them after.
+// How many numbers the samples are. The buffer holds zeros before, and the first of them after. It is of a fixed size, since no program here uses the heap.
 fn read_samples(rt: &impl Input, samples: &mut [f64]) -> usize
     ensures upper_bound { result ≤ length samples.new }
     ensures value { result ≡ length (take result samples.new) }

@@ -27,7 +27,7 @@ fn read_size(rt: &impl Input) -> Option<u64> {
     Some(words::u64_at(&size, 0))
 }
 
-// Log i. None of the list is longer than 66,000 bytes.
+// Log i. None of the list is longer than 66,000 bytes: it and its lines have fixed room, since no program here uses the heap.
 fn replay_next(rt: &(impl Input + Print), i: u64, size: u64) -> io::Result<()> {
     let mut log = [0u8; 66000];
     let n = read_log(&mut rt.reader(), &mut log, size);
