@@ -14,8 +14,8 @@ pub use state::is_finite_bias;
 
 #[derive(Clone, Copy)]
 pub struct PreintegratedImu {
-    // Accumulated rotation, velocity and position, and the time that they took. Not an `imu_step::Motion` in one field: the definitions of specs/State.antt name
-    // each field, by kornia's name.
+    // Accumulated rotation, velocity and position, and the time that they took. Not an `imu_step::Motion` in one field: the definitions of specs/State.antt
+    // name each field, by kornia's name.
     pub delta_rotation: [f64; 9],
     pub delta_velocity: [f64; 3],
     pub delta_position: [f64; 3],

@@ -11,9 +11,9 @@ use inertial::{ImuBias, ImuCalib, ImuMeasurement};
 impl PreintegratedImu {
     // Stands where no state was made.
     pub const BLANK: PreintegratedImu = PreintegratedImu {
-        delta_rotation: [0.0, 0.0, 0.0, 0.0, 0.0, 0.0, 0.0, 0.0, 0.0],
-        delta_velocity: [0.0, 0.0, 0.0],
-        delta_position: [0.0, 0.0, 0.0],
+        delta_rotation: [0.0; 9],
+        delta_velocity: [0.0; 3],
+        delta_position: [0.0; 3],
         dt: 0.0,
         bias: ImuBias::ZERO,
         calib: ImuCalib {
@@ -24,11 +24,11 @@ impl PreintegratedImu {
         },
         covariance: [0.0; 81],
         bias_covariance: [0.0; 36],
-        d_rotation_d_bias_gyro: [0.0, 0.0, 0.0, 0.0, 0.0, 0.0, 0.0, 0.0, 0.0],
-        d_velocity_d_bias_gyro: [0.0, 0.0, 0.0, 0.0, 0.0, 0.0, 0.0, 0.0, 0.0],
-        d_velocity_d_bias_accel: [0.0, 0.0, 0.0, 0.0, 0.0, 0.0, 0.0, 0.0, 0.0],
-        d_position_d_bias_gyro: [0.0, 0.0, 0.0, 0.0, 0.0, 0.0, 0.0, 0.0, 0.0],
-        d_position_d_bias_accel: [0.0, 0.0, 0.0, 0.0, 0.0, 0.0, 0.0, 0.0, 0.0],
+        d_rotation_d_bias_gyro: [0.0; 9],
+        d_velocity_d_bias_gyro: [0.0; 9],
+        d_velocity_d_bias_accel: [0.0; 9],
+        d_position_d_bias_gyro: [0.0; 9],
+        d_position_d_bias_accel: [0.0; 9],
     };
 
     // Nothing accumulated yet.

@@ -24,6 +24,7 @@ ghost use Rattle.std.specs.Prelude.{◌≡◌, ◌≤◌, length, take};
 
 use imu::PreintegratedImu;
 use imu_correction::Motion;
+use imu_window::BatchRefusal;
 use inertial::{ImuBias, ImuCalib, ImuMeasurement};
 use number::Numbered;
 use std::io;
@@ -82,11 +83,12 @@ fn widen(rt: &(impl Input + Print), state: &mut PreintegratedImu) -> io::Result<
 fn integrate_batch(rt: &(impl Input + Print), state: &mut PreintegratedImu) -> io::Result<()> {
     let mut samples = [0.0; 28679];
     let n = read_samples(rt, &mut samples);
-    let (number, index) = match imu_window::integrate_batch(state, &samples[..n]) {
-        Ok(()) => (0, 0),
-        Err(refused) => (refused.why.number(), refused.index),
+    let answer = imu_window::integrate_batch(state, &samples[..n]);
+    cases::print_outcome(rt, &answer)?;
+    let index = match answer {
+        Err(BatchRefusal::Step { index, .. }) => index,
+        _ => 0,
     };
-    cases::print_word(rt, number)?;
     cases::print_word(rt, index as u64)
 }
 

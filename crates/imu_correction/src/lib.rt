@@ -1,4 +1,5 @@
-// The deltas of an inertial accumulation at another bias, to first order, with no reading integrated anew; and the prediction of the next frame. From kornia's imu.rs.
+// The deltas of an inertial accumulation at another bias, to first order, with no reading integrated anew; and the prediction of the next frame. From
+// kornia's imu.rs.
 #![tactic(auto)]
 
 ghost use Rattle.std.specs.Prelude.{◌≡◌};
@@ -100,7 +101,8 @@ fn correction_turn(state: &PreintegratedImu, bias: ImuBias) -> [f64; 3]
     )
 }
 
-// The motion at the next frame, from rotation r, velocity v and position p at this one, with gravity g, all in the world.
+// The motion at the next frame, from rotation r, velocity v and position p at this one, with gravity g, all in the world. r, v and
+// p stand one by one and not as a Motion, as in the definitions `predict_of` and `predicted_state`.
 #[tactic(auto, unfolding(crate::specs::Correction::finite_prediction, crate::specs::Correction::predict_of))]
 pub fn predict(
     state: PreintegratedImu,

@@ -22,9 +22,9 @@ pub struct Motion {
 impl Motion {
     // Stands where there is none.
     pub const BLANK: Motion = Motion {
-        rotation: [0.0, 0.0, 0.0, 0.0, 0.0, 0.0, 0.0, 0.0, 0.0],
-        velocity: [0.0, 0.0, 0.0],
-        position: [0.0, 0.0, 0.0],
+        rotation: [0.0; 9],
+        velocity: [0.0; 3],
+        position: [0.0; 3],
     };
 
     pub fn is_finite(self) -> bool
