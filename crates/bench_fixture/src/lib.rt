@@ -87,6 +87,7 @@ pub extern "C" fn bench_information(
 {
     let covariance = [cxx, cxy, cxw, cxy, cyy, cyw, cxw, cyw, cww];
     let m = WheelOdomMeasurement::new([0.0, 0.0, heading], covariance);
+    // A match, since with map_or the contract stayed open.
     match m.information() {
         Ok(matrix) => matrix[0],
         Err(_) => 0.0,

@@ -36,6 +36,7 @@ pub struct Records<'a, R> {
     left: u64,
 }
 
+// An iterator, and no function that takes what is done with each: that would ask that it can be called, and no public function has a requires.
 pub fn kinds<R: Input>(rt: &R) -> Records<'_, R> {
     Records { rt, left: u64::MAX }
 }
@@ -48,7 +49,7 @@ impl<'a, R: Input> Iterator for Records<'a, R> {
     fn next(&mut self) -> Option<u64> {
         self.left = self.left.checked_sub(1)?;
         let kind = read_word(self.rt);
-        if kind == 0 { None } else { Some(kind) }
+        (kind != 0).then_some(kind)
     }
 }
 
@@ -56,6 +57,10 @@ pub fn read_word(rt: &impl Input) -> u64 {
     let mut s = [0u8; 8];
     read_bytes(rt, &mut s);
     words::u64_at(&s, 0)
+}
+
+pub fn read_tick(rt: &impl Input) -> i64 {
+    number::tick::of_bits(read_word(rt))
 }
 
 // Bytes past the end of the input are left as they are.
@@ -113,6 +118,18 @@ pub fn print_numbers(rt: &impl Print, xs: &[f64]) -> io::Result<()> {
         print_word(rt, words::to_bits(*x))?;
     }
     Ok(())
+}
+
+pub fn print_calib(rt: &impl Print, c: ImuCalib) -> io::Result<()> {
+    print_numbers(
+        rt,
+        &[
+            c.gyro_noise,
+            c.accel_noise,
+            c.gyro_bias_noise,
+            c.accel_bias_noise,
+        ],
+    )
 }
 
 // Numbers of a record that, from the kind 100 on, are held against others: these then stand in the input, behind a tolerance.

@@ -1,6 +1,6 @@
-// Asks the wheel and still factors by the records of standard input, and writes what each answers, in bits, a blank beside a refusal too. The crate `cases` says
-// what a record and a line are. tools/factor_cases.py makes the input and the expected output, but for the Rust's answers at their end, which are oracle/run
-// --sample's. A record is its kind and:
+// Asks the wheel and still factors by the records of standard input, and writes what each answers, in bits, a blank beside a refusal too. The crate `cases`
+// says what a record and a line are. tools/factor_cases.py makes the input and the expected output, but for the Rust's answers at their end, which are
+// oracle/run --sample's. A record is its kind and:
 //
 //    1  a group of cases begins: its number
 //    2  every way to make a wheel measurement, and its planar part: delta 3, covariance 9, sigmas 2
@@ -54,18 +54,21 @@ fn ask(rt: &(impl Input + Print), kind: u64) -> io::Result<()> {
 
 // ---- wheel measurements and factors
 
+// The kind of what no record asks to be held against others.
+const PLAIN: u64 = 2;
+
 fn ask_measurements(rt: &(impl Input + Print)) -> io::Result<()> {
     let full = read_measurement(rt);
     let plain = WheelOdomMeasurement::new(full.delta, full.covariance);
     let motion = full.planar_motion();
-    print_measurement(rt, 2, plain)?;
+    print_measurement(rt, PLAIN, plain)?;
     print_measurement(
         rt,
-        2,
+        PLAIN,
         plain.with_out_of_plane_sigmas(full.z_sigma, full.tilt_sigma),
     )?;
-    print_measurement(rt, 2, WheelOdomMeasurement::from(motion))?;
-    cases::print_motion(rt, 2, &motion.delta, &motion.covariance)
+    print_measurement(rt, PLAIN, WheelOdomMeasurement::from(motion))?;
+    cases::print_motion(rt, PLAIN, &motion.delta, &motion.covariance)
 }
 
 fn ask_information(rt: &(impl Input + Print), kind: u64) -> io::Result<()> {
@@ -118,10 +121,10 @@ fn ask_still_composed(rt: &(impl Input + Print)) -> io::Result<()> {
     let first = read_still(rt);
     let composed = first.compose(read_still(rt));
     cases::print_outcome(rt, &composed)?;
-    match composed {
-        Ok(f) => print_still(rt, f),
-        Err(_) => Ok(()),
+    if let Ok(f) = composed {
+        print_still(rt, f)?;
     }
+    Ok(())
 }
 
 fn ask_limits_joined(rt: &(impl Input + Print)) -> io::Result<()> {
@@ -172,6 +175,7 @@ fn read_factor(rt: &impl Input) -> WheelOdomFactor {
     )
 }
 
+// read_mean is its like: of two with four lines each, one function of both would take a closure.
 fn read_limit(rt: &impl Input) -> Option<f64> {
     let is_there = cases::read_word(rt) == 1;
     let limit = cases::read_f64(rt);
@@ -251,7 +255,6 @@ fn print_limit(rt: &impl Print, limit: Option<f64>) -> io::Result<()> {
 }
 
 fn print_still(rt: &impl Print, f: StationaryFactor) -> io::Result<()> {
-    let c = f.calib;
     cases::print_word(rt, f.from_idx as u64)?;
     cases::print_word(rt, f.to_idx as u64)?;
     cases::print_numbers(rt, &[f.span_s])?;
@@ -259,15 +262,7 @@ fn print_still(rt: &impl Print, f: StationaryFactor) -> io::Result<()> {
         None => cases::print_word(rt, 0)?,
         Some(g) => print_gyro(rt, g)?,
     }
-    cases::print_numbers(
-        rt,
-        &[
-            c.gyro_noise,
-            c.accel_noise,
-            c.gyro_bias_noise,
-            c.accel_bias_noise,
-        ],
-    )?;
+    cases::print_calib(rt, f.calib)?;
     cases::print_numbers(
         rt,
         &[

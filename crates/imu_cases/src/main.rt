@@ -9,8 +9,8 @@
 //    5  batch: n and w, at most 28,679 each, and w numbers. The samples are n numbers: these, and then 0
 //    6  window: biases 6, densities 4; t0, t1; the places of the order buffer, at most 4,200; then the samples, as in 5. Before the call place i
 //       holds 1000 + i
-//    7  hand in a state: rotation 9, velocity 3, position 3, dt; biases 6 and densities 4; the covariance, 81; the covariance of the biases, 36; the Jacobians, 9
-//       each: rotation by gyroscope, velocity by gyroscope and by accelerometer, position by both
+//    7  hand in a state: rotation 9, velocity 3, position 3, dt; biases 6 and densities 4; the covariance, 81; the covariance of the biases, 36; the Jacobians,
+//       9 each: rotation by gyroscope, velocity by gyroscope and by accelerometer, position by both
 //    8  the rotation at other biases, 6; 9 the velocity; 10 the position
 //   11  predict: rotation 9, velocity 3, position 3, gravity 3
 //   12  show the whole state
@@ -238,7 +238,7 @@ fn read_places(rt: &impl Input, order: &mut [usize]) -> usize
 
 // ---- what a line holds
 
-// 0, or the refusal's number.
+// Every place of the order buffer.
 fn print_places(rt: &impl Print, order: &[usize]) -> io::Result<()> {
     for place in order {
         cases::print_word(rt, *place as u64)?;
@@ -261,18 +261,10 @@ fn print_state(rt: &(impl Input + Print), kind: u64, state: PreintegratedImu) ->
     print_jacobians(rt, kind, state)
 }
 
-fn print_parameters(rt: &impl Print, bias: ImuBias, c: ImuCalib) -> io::Result<()> {
+fn print_parameters(rt: &impl Print, bias: ImuBias, calib: ImuCalib) -> io::Result<()> {
     cases::print_numbers(rt, &bias.gyro)?;
     cases::print_numbers(rt, &bias.accel)?;
-    cases::print_numbers(
-        rt,
-        &[
-            c.gyro_noise,
-            c.accel_noise,
-            c.gyro_bias_noise,
-            c.accel_bias_noise,
-        ],
-    )
+    cases::print_calib(rt, calib)
 }
 
 fn print_jacobians(

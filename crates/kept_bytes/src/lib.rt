@@ -29,7 +29,8 @@ fn store(kept: KeptValues, out: &mut [f64])
     }
 }
 
-// The nine numbers of the rate noise, then the radians per tick.
+// The nine numbers of the rate noise, then the radians per tick. By the index: out is as long as the C program makes it, and kept_number says what stands at
+// each place.
 fn number_of(kept: KeptValues, i: usize) -> f64
     ensures { result ≡ kept_number kept i }
 {

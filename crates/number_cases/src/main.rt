@@ -7,8 +7,8 @@
 //    4  an angle: its sine and its cosine
 //    5  a ratio: its halvings, and the number of parts
 //
-// A line has, of 3 and 4, what became of the call (0, or the refusal's number), and what it answers. A kind 100 higher is the same, with the sine and the cosine
-// each held against another behind a tolerance.
+// A line has, of 3 and 4, what became of the call (0, or the refusal's number), and what it answers. A kind 100 higher is the same, with the sine and the
+// cosine each held against another behind a tolerance.
 #![tactic(auto)]
 
 use std::io;
@@ -25,7 +25,7 @@ fn main(rt: HostRuntime) -> io::Result<()> {
 // The kind is matched as the number that the input has: an enum of the kinds would be the list above a second time.
 fn ask(rt: &(impl Input + Print), kind: u64) -> io::Result<()> {
     match kind % 100 {
-        1 => cases::print_numbers(rt, &[number::whole_to_f64(read_tick(rt))]),
+        1 => cases::print_numbers(rt, &[number::whole_to_f64(cases::read_tick(rt))]),
         2 => ask_difference(rt),
         3 => ask_root(rt),
         4 => ask_turn(rt, kind),
@@ -37,43 +37,40 @@ fn ask(rt: &(impl Input + Print), kind: u64) -> io::Result<()> {
 
 fn ask_difference(rt: &(impl Input + Print)) -> io::Result<()> {
     let width = cases::read_word(rt);
-    let from = read_tick(rt);
-    let difference = number::tick_difference(width, from, read_tick(rt));
+    let from = cases::read_tick(rt);
+    let difference = number::tick_difference(width, from, cases::read_tick(rt));
     cases::print_word(rt, number::tick::bits_of(difference))
 }
 
 fn ask_range(rt: &(impl Input + Print)) -> io::Result<()> {
     let width = cases::read_word(rt);
-    cases::print_word(rt, number::tick_in_range(width, read_tick(rt)) as u64)
+    cases::print_word(
+        rt,
+        number::tick_in_range(width, cases::read_tick(rt)) as u64,
+    )
 }
 
 fn ask_root(rt: &(impl Input + Print)) -> io::Result<()> {
     let answer = root::sqrt(cases::read_f64(rt));
     cases::print_outcome(rt, &answer)?;
-    match answer {
-        Ok(r) => cases::print_numbers(rt, &[r]),
-        Err(_) => Ok(()),
+    if let Ok(r) = answer {
+        cases::print_numbers(rt, &[r])?;
     }
+    Ok(())
 }
 
 fn ask_turn(rt: &(impl Input + Print), kind: u64) -> io::Result<()> {
     let answer = sincos::sin_cos(cases::read_f64(rt));
     cases::print_outcome(rt, &answer)?;
-    match answer {
-        Ok(v) => {
-            cases::print_near(rt, kind, &[v.sin])?;
-            cases::print_near(rt, kind, &[v.cos])
-        }
-        Err(_) => Ok(()),
+    if let Ok(v) = answer {
+        cases::print_near(rt, kind, &[v.sin])?;
+        cases::print_near(rt, kind, &[v.cos])?;
     }
+    Ok(())
 }
 
 fn ask_halvings(rt: &(impl Input + Print)) -> io::Result<()> {
     let h = number::halvings(cases::read_f64(rt));
     cases::print_word(rt, h.count as u64)?;
     cases::print_numbers(rt, &[h.parts])
-}
-
-fn read_tick(rt: &impl Input) -> i64 {
-    number::tick::of_bits(cases::read_word(rt))
 }

@@ -32,7 +32,7 @@ fn main(rt: HostRuntime) -> io::Result<()> {
 fn print_root(rt: &impl Print, x: f64) -> io::Result<()> {
     match root::sqrt(x) {
         Ok(r) => print_f64(rt, r),
-        Err(_) => rt.println("refused 2"),
+        Err(refusal) => println!(rt; "refused {}", refusal.number()),
     }
 }
 

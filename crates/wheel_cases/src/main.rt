@@ -3,8 +3,8 @@
 // oracle/run --sample's. A record is its kind and:
 //
 //    1  a group of cases begins: its number
-//    2  begin a walk: a drive (left and right radius, track, ticks per turn, counter width), the noise of a wheel's rate, the lateral noise; 3 a drive, with the
-//       noise that is set beforehand
+//    2  begin a walk: a drive (left and right radius, track, ticks per turn, counter width), the noise of a wheel's rate, the lateral noise; 3 a drive, with
+//       the noise that is set beforehand
 //    4  integrate ticks: whether it is valid (1), the time, left and right; 5 rates
 //    6  restart
 //    7  hand in a state, fit or not: a drive and a noise as in 2, the motion's three numbers and the nine of its covariance, dt, and the last reading, as in 4
@@ -16,13 +16,13 @@
 //   12  change the drive and the noise: as in 2
 //   13  a run: the bytes of eight events, and eight bytes more, which are no event
 //
-// A line of 2 to 6 and of 12 has what became of the call (0, or the refusal's number and the times that it carries) and the state as in 7; one of 7 has the state;
-// one of 13 has how many readings were accepted and the state; one of 8 to 11 has what became of the call and the answer, and beside a refused composition the
-// motion that is blank by contract.
+// A line of 2 to 6 and of 12 has what became of the call (0, or the refusal's number and the times that it carries) and the state as in 7; one of 7 has the
+// state; one of 13 has how many readings were accepted and the state; one of 8 to 11 has what became of the call and the answer, and beside a refused
+// composition the motion that is blank by contract.
 //
 // A kind 100 higher is the same, with motions and twists held against the Rust's: place, heading and covariance, and the forward speed and the yaw rate, each
-// stand behind a tolerance. A kind 200 higher is the same, with the kept values in a state, behind its noise: the nine numbers of the rate noise and the radians
-// per tick. The Rust keeps none, so that otherwise none stand there, and those of a state that is handed in are worked out.
+// stand behind a tolerance. A kind 200 higher is the same, with the kept values in a state, behind its noise: the nine numbers of the rate noise and the
+// radians per tick. The Rust keeps none, so that otherwise none stand there, and those of a state that is handed in are worked out.
 #![tactic(auto)]
 
 use drive::{BodyTwist, DifferentialDrive, Reading, Refusal, WheelMeasurement, WheelNoise};
@@ -49,7 +49,11 @@ fn main(rt: HostRuntime) -> io::Result<()> {
 // The kind is matched as the number that the input has: an enum of the kinds would be the list above a second time.
 fn call(rt: &(impl Input + Print), kind: u64, state: &mut WheelPreintegration) -> io::Result<()> {
     match kind % 100 {
-        2 | 3 => begin(rt, kind % 100, state),
+        2 => {
+            let drive = read_drive(rt);
+            begin(rt, drive, read_noise(rt), state)
+        }
+        3 => begin(rt, read_drive(rt), WheelNoise::DEFAULT, state),
         4 | 5 => print_outcome(rt, state.integrate(read_measurement(rt, kind % 100))),
         6 => {
             state.restart();
@@ -61,16 +65,20 @@ fn call(rt: &(impl Input + Print), kind: u64, state: &mut WheelPreintegration) -
         }
         12 => {
             let drive = read_drive(rt);
-            print_outcome(rt, state.change(drive, read_noise(rt, 2)))
+            print_outcome(rt, state.change(drive, read_noise(rt)))
         }
         13 => run(rt, state),
         _ => Ok(()),
     }
 }
 
-fn begin(rt: &(impl Input + Print), kind: u64, state: &mut WheelPreintegration) -> io::Result<()> {
-    let drive = read_drive(rt);
-    let made = WheelPreintegration::new(drive, read_noise(rt, kind));
+fn begin(
+    rt: &impl Print,
+    drive: DifferentialDrive,
+    noise: WheelNoise,
+    state: &mut WheelPreintegration,
+) -> io::Result<()> {
+    let made = WheelPreintegration::new(drive, noise);
     *state = made.unwrap_or(WheelPreintegration::BLANK);
     print_outcome(rt, made.map(|_| ()))
 }
@@ -112,38 +120,35 @@ fn ask(
 fn ask_twist(rt: &(impl Input + Print), kind: u64, drive: DifferentialDrive) -> io::Result<()> {
     let left = cases::read_f64(rt);
     let right = cases::read_f64(rt);
-    match drive.twist(left, right) {
-        Ok(v) => {
-            cases::print_word(rt, 0)?;
-            cases::print_near(rt, kind, &[v.vx])?;
-            cases::print_numbers(rt, &[v.vy])?;
-            cases::print_near(rt, kind, &[v.wz])
-        }
-        Err(why) => print_refusal(rt, why),
+    let answer = drive.twist(left, right);
+    print_outcome(rt, answer.map(|_| ()))?;
+    if let Ok(v) = answer {
+        cases::print_near(rt, kind, &[v.vx])?;
+        cases::print_numbers(rt, &[v.vy])?;
+        cases::print_near(rt, kind, &[v.wz])?;
     }
+    Ok(())
 }
 
 fn ask_rates(rt: &(impl Input + Print), drive: DifferentialDrive) -> io::Result<()> {
-    let left = read_tick(rt);
-    let right = read_tick(rt);
-    match drive.wheel_rates_from_ticks(left, right, cases::read_f64(rt)) {
-        Ok(w) => {
-            cases::print_word(rt, 0)?;
-            cases::print_numbers(rt, &[w.left, w.right])
-        }
-        Err(why) => print_refusal(rt, why),
+    let left = cases::read_tick(rt);
+    let right = cases::read_tick(rt);
+    let answer = drive.wheel_rates_from_ticks(left, right, cases::read_f64(rt));
+    print_outcome(rt, answer.map(|_| ()))?;
+    if let Ok(w) = answer {
+        cases::print_numbers(rt, &[w.left, w.right])?;
     }
+    Ok(())
 }
 
 fn ask_jacobian(rt: &(impl Input + Print), drive: DifferentialDrive) -> io::Result<()> {
-    match drive.twist_jacobian() {
-        Ok(c) => {
-            cases::print_word(rt, 0)?;
-            print_twist(rt, c.left)?;
-            print_twist(rt, c.right)
-        }
-        Err(why) => print_refusal(rt, why),
+    let answer = drive.twist_jacobian();
+    print_outcome(rt, answer.map(|_| ()))?;
+    if let Ok(c) = answer {
+        print_twist(rt, c.left)?;
+        print_twist(rt, c.right)?;
     }
+    Ok(())
 }
 
 // The stored motion, then the record's; beside a refusal stands no motion.
@@ -171,10 +176,7 @@ fn read_drive(rt: &impl Input) -> DifferentialDrive {
     }
 }
 
-fn read_noise(rt: &impl Input, call: u64) -> WheelNoise {
-    if call == 3 {
-        return WheelNoise::DEFAULT;
-    }
+fn read_noise(rt: &impl Input) -> WheelNoise {
     let wheel_rate = cases::read_f64(rt);
     let lateral_velocity = cases::read_f64(rt);
     WheelNoise {
@@ -191,7 +193,7 @@ fn read_motion(rt: &impl Input) -> PlanarMotion {
 
 fn read_state(rt: &impl Input, kind: u64) -> WheelPreintegration {
     let drive = read_drive(rt);
-    let noise = read_noise(rt, 2);
+    let noise = read_noise(rt);
     let kept = read_kept(rt, kind, drive, noise);
     let motion = read_motion(rt);
     let dt = cases::read_f64(rt);
@@ -221,6 +223,7 @@ fn read_kept(
     }
 }
 
+// The number in front of a reading: 4 of ticks, 5 of rates, 0 for none, as the list above has them.
 fn read_last(rt: &impl Input, call: u64) -> Option<WheelMeasurement> {
     if call == 0 {
         return None;
@@ -241,19 +244,16 @@ fn read_measurement(rt: &impl Input, call: u64) -> WheelMeasurement {
 
 fn read_reading(rt: &impl Input, call: u64) -> Reading {
     if call == 4 {
-        let left = read_tick(rt);
-        return Reading::Ticks(left, read_tick(rt));
+        let left = cases::read_tick(rt);
+        return Reading::Ticks(left, cases::read_tick(rt));
     }
     let left = cases::read_f64(rt);
     Reading::AngularVelocity(left, cases::read_f64(rt))
 }
 
-fn read_tick(rt: &impl Input) -> i64 {
-    number::tick::of_bits(cases::read_word(rt))
-}
-
 // ---- what a line holds
 
+// Not cases::print_outcome: the wheel's refusals carry times.
 fn print_outcome(rt: &impl Print, outcome: Result<(), Refusal>) -> io::Result<()> {
     match outcome {
         Ok(()) => cases::print_word(rt, 0),
