@@ -25,7 +25,7 @@ numbered r =
     R.AngleRange when eqb r.number 8 else
     R.TickRange
 
-refusal_back : (r : Refusal) → numbered (row_of r) ≡ r
+pub refusal_back : (r : Refusal) → numbered (row_of r) ≡ r
 refusal_back R.Invalid = refl
 refusal_back R.NonFinite = refl
 refusal_back (R.OutOfOrder time last) = refl

@@ -15,7 +15,7 @@ impl BodyTwist {
 }
 
 impl DifferentialDrive {
-    // Stands where there is no drive.
+    // Stands where there is no drive. By a name and no Default: it is no value to begin with.
     pub const BLANK: DifferentialDrive = DifferentialDrive {
         left_radius: 0.0,
         right_radius: 0.0,
@@ -104,5 +104,5 @@ impl DifferentialDrive {
 fn is_width(width: u64) -> bool
     ensures { result ≡ is_width width }
 {
-    (width == 16) | (width == 24) | (width == 32) | (width == 64)
+    matches!(width, 16 | 24 | 32 | 64)
 }

@@ -16,7 +16,8 @@ pub enum Reading {
     AngularVelocity(f64, f64),
 }
 
-// One sample: its time in seconds, what it reads, and whether the driver vouches for it.
+// One sample: its time in seconds, what it reads, and whether the driver vouches for it. A flag and no Option, since a state that is handed in, and the order of
+// the refusals, have the reading of an invalid sample too.
 #[derive(Clone, Copy)]
 pub struct WheelMeasurement {
     pub timestamp: f64,
@@ -48,7 +49,8 @@ pub struct TwistColumns {
 }
 
 // The wheels' radii and the distance between their contact points in metres, encoder counts per wheel turn, and the bits of the encoders' counters:
-// below 64 they start again at 0 where they are full. Each wheel has its own radius, since tyres wear unevenly.
+// below 64 they start again at 0 where they are full. Any number may stand there, as in a log: one that no encoder has is refused. Each wheel has its own radius,
+// since tyres wear unevenly.
 #[derive(Clone, Copy)]
 pub struct DifferentialDrive {
     pub left_radius: f64,

@@ -64,6 +64,7 @@ fn settled(x: f64) -> f64
     if x != x { 0.0 / 0.0 } else { x }
 }
 
+// A loop: by `map` and by `array::from_fn` the proof that what comes of it is q itself did not close.
 fn settled_noise(q: [f64; 9]) -> [f64; 9]
     ensures { result ≡ q }
 {

@@ -1,5 +1,5 @@
-// The covariance of the inertial step, A·C·Aᵀ + B·N·Bᵀ, of which A, B and N are mostly zeros: what meets a zero is left out. A zero times a finite number is a zero and adds
-// nothing, bit for bit, to a sum that starts from +0; and what is not finite stays so. proofs/Agrees.antt has the law.
+// The covariance of the inertial step, A·C·Aᵀ + B·N·Bᵀ, of which A, B and N are mostly zeros: what meets a zero is left out. A zero times a finite number is a
+// zero and adds nothing, bit for bit, to a sum that starts from +0; and what is not finite stays so. proofs/Agrees.antt has the law.
 #![tactic(auto)]
 
 ghost use Rattle.std.specs.Prelude.{◌≡◌, ℕ, ◌+◌, ◌*◌, ◌<◌, ◌≤◌, List, get_or, ltb, replicate, Float};
@@ -10,7 +10,8 @@ ghost use Rattle.number.specs.Tabulated.{tabulated};
 ghost use Rattle.mat9.specs.Matrix.{entry, matrix};
 ghost use Rattle.lean9.specs.Inside.Lean.{kept_in_noise, kept_in_step, kept_sum, lean_carried, noise_times_diagonal, step_times, term, three_from, times_noise_transposed, times_step_transposed};
 
-// w plus column k of m times x, row by row. A counted loop: in a function over a size, the closure of `array::from_fn` would have to state this contract once more.
+// w plus column k of m times x, row by row. A counted loop: in a function over a size, the closure of `array::from_fn` would have to state this contract once
+// more. Rows and columns stay numbers with a bound: a type of those below 9 would be made anew at each k + 1 and c − 3.
 fn plus_column<const N: usize>(w: [f64; 9], m: &[f64; N], k: usize, x: f64) -> [f64; 9]
     requires { 9 * (k + 1) ≤ N }
     ensures { result ≡ tabulated 9 (λ r. get_or w r nan ⊕ entry 9 m.now r k ⊗ x) }

@@ -9,7 +9,7 @@ ghost use Rattle.mat3.specs.Matrix.{column as column_of, columns as columns_of, 
 pub fn zeros() -> [f64; 9]
     ensures { result ≡ zeros_of }
 {
-    [0.0, 0.0, 0.0, 0.0, 0.0, 0.0, 0.0, 0.0, 0.0]
+    [0.0; 9]
 }
 
 // 1 on the diagonal, and 0 elsewhere.
@@ -109,7 +109,7 @@ pub fn from_columns(a: [f64; 3], b: [f64; 3], c: [f64; 3]) -> [f64; 9]
     [a[0], a[1], a[2], b[0], b[1], b[2], c[0], c[1], c[2]]
 }
 
-// No entry is an infinity or a NaN.
+// No entry is an infinity or a NaN: column by column as the definition, and with no branch, where mat9's test of any size stops at the first.
 pub fn is_finite(m: [f64; 9]) -> bool
     ensures { result ≡ finite_matrix m }
 {

@@ -28,7 +28,8 @@ fn from_blocks<const ACROSS: usize, const PARTS: usize, const N: usize>(
     out
 }
 
-// Three rows of three 3×3 matrices, as they are printed.
+// Three rows of three 3×3 matrices, as they are printed. This and the next are public by their sizes, since `from_blocks` asks for sizes that fit, and no public
+// function has a requires.
 pub fn block3x3_to_9x9(parts: [[f64; 9]; 9]) -> [f64; 81]
     ensures { result ≡ blocks 3 3 parts }
 {
@@ -42,7 +43,8 @@ pub fn block3x2_to_9x6(parts: [[f64; 9]; 6]) -> [f64; 54]
     from_blocks::<2, 6, 54>(parts)
 }
 
-// a three times and then b three times on the diagonal, and 0 elsewhere.
+// a three times and then b three times on the diagonal, and 0 elsewhere. Its six places are written out here and in two functions below: a loop over them would be
+// no shorter, and a sum of the first two would make +0 of a −0.
 #[tactic(auto, unfolding(crate::specs::Matrix::diagonal6, crate::specs::Matrix::matrix, number::specs::Tabulated::tabulated))]
 pub fn diag_6x6(a: f64, b: f64) -> [f64; 36]
     ensures { result ≡ diagonal6 a b }

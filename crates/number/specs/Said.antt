@@ -1,5 +1,5 @@
--- What an answer says in 01's numbers. Every answer that is an enum has one definition into `Said`, the contracts speak through it,
--- and it is proved that what is said determines the case (`proofs/Cases.antt` of the enum's crate).
+-- What an answer says in 01's numbers. A `Result` is said by the row that its crate's definition gives each refusal; the contracts speak through it,
+-- and it is proved that what is said determines the answer (`proofs/Cases.antt` of its crate).
 use Rattle.std.specs.Prelude.{ℕ, List, [], Float, Result, Ok, Err}
 
 -- the value that was asked for, or 01's refusal number and the values that the refusal carries
@@ -25,7 +25,7 @@ row_with n values = record { number = n; values = values }
 abbrev pub refused_by : {A : Type 0} → Row → Said A
 refused_by r = refused r.number r.values
 
--- An answer whose value holds an array stands beside its outcome: it is taken, and this is the value, or it is refused, and this is the value all the same.
+-- An answer with a value in either case: it is taken, and this is the value, or it is refused, and this is the value all the same.
 pub record Told (A : Type 0) : Type 0 where
   pub outcome : Said (Unit {0})
   pub value : A

@@ -1,4 +1,5 @@
-// Tests and choices on f64 that IEEE 754 has no operator for.
+// Tests and choices on f64 that IEEE 754 has no operator for. Those that std has too stand here under the names of the definitions, by which all crates above
+// prove.
 ghost use Rattle.std.specs.Prelude.{◌≡◌};
 ghost use Rattle.number.specs.Fit.{finite_not_negative, finite_positive};
 ghost use Rattle.number.specs.Float.{finite};
@@ -13,6 +14,7 @@ pub fn is_finite(x: f64) -> bool
 }
 
 // Finite and above 0: what a length or a sigma has to be.
+#[tactic(auto, unfolding(crate::specs::Fit::finite_positive))]
 pub fn is_finite_positive(x: f64) -> bool
     ensures { result ≡ finite_positive x }
 {
@@ -20,6 +22,7 @@ pub fn is_finite_positive(x: f64) -> bool
 }
 
 // Finite and not below 0: what a noise density has to be.
+#[tactic(auto, unfolding(crate::specs::Fit::finite_not_negative))]
 pub fn is_finite_not_negative(x: f64) -> bool
     ensures { result ≡ finite_not_negative x }
 {
@@ -35,11 +38,12 @@ pub fn size(x: f64) -> f64
 
 // The larger of two; a NaN is passed over, and of two that are equal the first is taken. By hand, since std's `max` says of equal ones only that it gives
 // either, and 01 tells the zeros apart.
+#[tactic(auto, unfolding(crate::specs::Float::larger))]
 pub fn larger(a: f64, b: f64) -> f64
     ensures { result ≡ larger_of a b }
 {
     if a < b {
         return b;
     }
-    if a != a { b } else { a }
+    if a.is_nan() { b } else { a }
 }

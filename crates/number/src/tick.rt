@@ -2,21 +2,22 @@
 ghost use Rattle.std.specs.Prelude.{◌≡◌, ◌%◌, ◌^◌, ◌<◌};
 ghost use Rattle.number.specs.Ticks.{residue, signed, tick_difference, tick_in_range, width_of};
 
-// The two's complement bits of a.
+// The two's complement bits of a: std's cast, under the definition's word.
 pub fn bits_of(a: i64) -> u64
     ensures { result ≡ residue 64 a }
 {
     a.cast_unsigned()
 }
 
-// The number whose two's complement bits are n.
+// The number whose two's complement bits are n: std's cast, under the definition's word.
 pub fn of_bits(n: u64) -> i64
     ensures { result ≡ signed 64 n }
 {
     n.cast_signed()
 }
 
-// The lowest bits of n, so many as the width says, as a number whose sign is the highest of them, by its two's complement bits.
+// The lowest bits of n, so many as the width says, as a number whose sign is the highest of them, by its two's complement bits. By a
+// remainder, as the definition is written: a shift there and back would take a law of its own.
 fn sign_extended(width: u64, n: u64) -> u64
     ensures { result ≡ residue 64 (signed (width_of width) (n % 2 ^ width_of width)) }
 {

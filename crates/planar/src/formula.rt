@@ -7,6 +7,7 @@ use crate::PlanarMotion;
 use number::{PI, TAU};
 
 // The motion `first` then `next`. The covariance propagates to first order through the composition; the two motions' noise is independent.
+#[tactic(auto, unfolding(crate::specs::Compose::composed, crate::specs::Compose::shifted))]
 pub fn composed(first: PlanarMotion, next: PlanarMotion) -> PlanarMotion
     ensures { result ≡ composed_of first next }
 {
@@ -19,11 +20,12 @@ pub fn composed(first: PlanarMotion, next: PlanarMotion) -> PlanarMotion
     let tx = t[0];
     let ty = t[1];
     let delta = [a[0] + tx, a[1] + ty, wrapped(a[2] + b[2])];
-    let covariance = symmetrized(carried_by_shift(tx, ty, p), carried_by_turn(turn, q));
+    let covariance = symmetrized(carried(first_jacobian(tx, ty), p), carried(turn, q));
     PlanarMotion { delta, covariance }
 }
 
 // A heading sum back within half a turn, by one turn at most.
+#[tactic(auto, unfolding(crate::specs::Compose::wrapped))]
 fn wrapped(s: f64) -> f64
     ensures { result ≡ wrapped_of s }
 {
@@ -36,6 +38,7 @@ fn wrapped(s: f64) -> f64
     s + TAU
 }
 
+#[tactic(auto, unfolding(crate::specs::Compose::turn_matrix))]
 pub fn turn_matrix(heading: f64) -> [f64; 9]
     ensures { result ≡ turn_matrix heading }
 {
@@ -50,23 +53,10 @@ fn first_jacobian(tx: f64, ty: f64) -> [f64; 9]
     [1.0, 0.0, 0.0, 0.0, 1.0, 0.0, -ty, tx, 1.0]
 }
 
-// The covariance s of the first motion, carried by its Jacobian j: j · s · jᵀ, left to right. Each way of carrying has a function of its own, since a
-// function with one caller is compiled in its place, where the Jacobian's ones are known.
-fn carried_by_shift(tx: f64, ty: f64, s: [f64; 9]) -> [f64; 9]
-    ensures { result ≡ carried_of (first_jacobian tx ty) s }
-{
-    let j = first_jacobian(tx, ty);
-    mat3::product(mat3::product(j, s), mat3::transpose(j))
-}
-
-// The covariance s of the second motion, carried by the turn y: y · s · yᵀ, left to right.
-fn carried_by_turn(y: [f64; 9], s: [f64; 9]) -> [f64; 9]
-    ensures { result ≡ carried_of y s }
-{
-    mat3::product(mat3::product(y, s), mat3::transpose(y))
-}
-
-// The covariance s of a twist increment, carried by the exponential's Jacobian j: j · s · jᵀ, left to right.
+// The covariance s of a motion or of a twist increment, carried by a Jacobian j: j · s · jᵀ, left to right. In its caller's place, where a Jacobian's ones are
+// known.
+#[inline(always)]
+#[tactic(auto, unfolding(crate::specs::Compose::carried))]
 pub fn carried(j: [f64; 9], s: [f64; 9]) -> [f64; 9]
     ensures { result ≡ carried_of j s }
 {
@@ -74,6 +64,7 @@ pub fn carried(j: [f64; 9], s: [f64; 9]) -> [f64; 9]
 }
 
 // ((a + aᵀ) + (b + bᵀ)) · 0.5: symmetric to the last bit, given the grouping.
+#[tactic(auto, unfolding(crate::specs::Compose::symmetrized))]
 fn symmetrized(a: [f64; 9], b: [f64; 9]) -> [f64; 9]
     ensures { result ≡ symmetrized_of a b }
 {

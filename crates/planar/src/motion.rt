@@ -10,8 +10,8 @@ use sincos::Refusal;
 impl PlanarMotion {
     // No motion, no uncertainty.
     pub const IDENTITY: PlanarMotion = PlanarMotion {
-        delta: [0.0, 0.0, 0.0],
-        covariance: [0.0, 0.0, 0.0, 0.0, 0.0, 0.0, 0.0, 0.0, 0.0],
+        delta: [0.0; 3],
+        covariance: [0.0; 9],
     };
 
     #[tactic(auto, unfolding(crate::specs::Motion::finite_motion))]

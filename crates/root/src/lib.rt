@@ -1,5 +1,6 @@
 // The square root of an f64, correctly rounded. The bit pattern is taken apart, the root of a whole number of 53 or 54 binary
-// digits is worked out to 54 digits, exactly, and the last digit rounds.
+// digits is worked out to 54 digits, exactly, and the last digit rounds. By hand, and not std's `f64::sqrt`: that is an operation of the processor, and would be
+// one thing more to believe (docs/ASSUMPTIONS.md), and the edits near_root_too_high and root_rounded_down are of these digits.
 #![tactic(auto)]
 
 ghost use Rattle.std.specs.Prelude.{◌≡◌, ◌+◌, ◌*◌, ◌^◌, ◌≤◌, ◌<◌, T};
@@ -28,7 +29,8 @@ impl Digits {
         151_000_000 - short * short * 167 / 16384
     }
 
-    // The largest s with s * s <= m, by Newton's iteration: the first step leads to or above the root, and the others come down to it.
+    // The largest s with s * s <= m, by Newton's iteration: the first step leads to or above the root, and the others come down to it. Not std's `isqrt`, which
+    // takes a step for each digit.
     fn half_root(self) -> u64
         ensures { Floor self.m result }
     {
@@ -80,7 +82,7 @@ struct Scaled {
     h: u64,
 }
 
-// m0 * 2^j0 as m * 4^h. The loop turns only for a subnormal number.
+// m0 * 2^j0 as m * 4^h. The loop turns only for a subnormal number; by the leading zeros it would be no plainer, since what it keeps is m * 2^j.
 fn normalized(m0: u64, j0: u64) -> Scaled
     requires { (0 < m0) × (m0 < 2 ^ 53) × (1022 ≤ j0) × (j0 < 3068) }
     ensures { Scale (m0 * 2 ^ j0) result.digits.m result.h × (result.h < 1534) }
@@ -137,8 +139,7 @@ pub fn sqrt(x: f64) -> Result<f64, Refusal>
     if x == 0.0 {
         return Ok(x);
     }
-    let inf = f64::from_bits(0x7ff0_0000_0000_0000);
-    if x == inf {
+    if x == f64::INFINITY {
         return Ok(x);
     }
     if !(x > 0.0) {

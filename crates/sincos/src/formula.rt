@@ -32,6 +32,7 @@ const H: f64 = 1.5707963267948966;
 
 const L: f64 = 6.123233995736766e-17;
 
+#[tactic(auto, unfolding(crate::specs::Turn::turn_of))]
 pub fn turn_of(x: f64) -> SinCos
     ensures { result ≡ turn_of x }
 {
@@ -50,6 +51,7 @@ pub fn turn_of(x: f64) -> SinCos
 }
 
 // For |x| at most 2^-5: three terms are enough, and nearly every step of a cart takes this way.
+#[tactic(auto, unfolding(crate::specs::Turn::short_kernel))]
 fn short_kernel(x: f64) -> SinCos
     ensures { result ≡ short_kernel x }
 {
@@ -62,6 +64,7 @@ fn short_kernel(x: f64) -> SinCos
 }
 
 // For |r| up to a little above π/4.
+#[tactic(auto, unfolding(crate::specs::Turn::long_kernel))]
 fn long_kernel(r: f64) -> SinCos
     ensures { result ≡ long_kernel r }
 {
@@ -76,6 +79,7 @@ fn long_kernel(r: f64) -> SinCos
 }
 
 // The angle a less q quarter turns, and its sine and cosine.
+#[tactic(auto, unfolding(crate::specs::Turn::less_quarters))]
 fn after_quarters(a: f64, q: f64) -> SinCos
     ensures { result ≡ long_kernel (less_quarters a q) }
 {
@@ -83,6 +87,7 @@ fn after_quarters(a: f64, q: f64) -> SinCos
 }
 
 // For a from 2^-5 to 4: by the quarter in which the angle lies.
+#[tactic(auto, unfolding(crate::specs::Turn::from_zero_up))]
 fn from_zero_up(a: f64) -> SinCos
     ensures { result ≡ from_zero_up a }
 {

@@ -49,6 +49,7 @@ pub fn sin_cos(x: f64) -> Result<SinCos, Refusal>
 }
 
 // A finite angle above 4 in size: what AngleRange refuses.
+#[tactic(auto, unfolding(crate::specs::Turn::above_four))]
 pub fn is_above_four(x: f64) -> bool
     ensures { result ≡ above_four x }
 {

@@ -41,7 +41,8 @@ impl StationaryFactor {
     }
 }
 
-// The one mean that is there, or the two weighted by their seconds.
+// The one mean that is there, or the two weighted by their seconds. As a Huber limit is joined, of another type: one function of both would take a closure with a
+// contract longer than this.
 fn joined_gyro(
     first: Option<StationaryGyro>,
     next: Option<StationaryGyro>,

@@ -4,7 +4,8 @@
 ghost use Rattle.std.specs.Prelude.{◌≡◌};
 ghost use Rattle.vec3.specs.Vector.{cross as cross_of, dot as dot_of, finite_vector, vector_difference, vector_scaled, vector_sum};
 
-// The sum, coordinate by coordinate.
+// The sum, coordinate by coordinate. It, the difference and the scaled vector are one line each here, in mat3 and in mat9: std's `array::from_fn` is the function
+// for any size, and one of our own around it would state its closure's contract once more.
 pub fn vector_sum(a: [f64; 3], b: [f64; 3]) -> [f64; 3]
     ensures { result ≡ vector_sum a b }
 {

@@ -22,7 +22,8 @@ impl WheelPreintegration {
         last: None,
     };
 
-    // An empty integrator; the first reading sets its start.
+    // An empty integrator; the first reading sets its start. Noise and drive are tested here, in `change` and at each reading, as the three definitions spell it:
+    // a change asks more of the drive.
     #[tactic(auto, unfolding(crate::specs::Integrator::make_of))]
     pub fn new(drive: DifferentialDrive, noise: WheelNoise) -> Result<WheelPreintegration, Refusal>
         ensures { told_made result ≡ make_of drive noise }

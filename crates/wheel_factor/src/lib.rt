@@ -59,8 +59,8 @@ impl From<sincos::Refusal> for Refusal {
 
 impl Extrinsic {
     const BLANK: Extrinsic = Extrinsic {
-        rotation: [0.0, 0.0, 0.0, 0.0, 0.0, 0.0, 0.0, 0.0, 0.0],
-        translation: [0.0, 0.0, 0.0],
+        rotation: [0.0; 9],
+        translation: [0.0; 3],
     };
 
     pub fn is_finite(self) -> bool

@@ -14,8 +14,8 @@ impl WheelOdomMeasurement {
 
     // Stands where there is no measurement.
     pub const BLANK: WheelOdomMeasurement = WheelOdomMeasurement {
-        delta: [0.0, 0.0, 0.0],
-        covariance: [0.0, 0.0, 0.0, 0.0, 0.0, 0.0, 0.0, 0.0, 0.0],
+        delta: [0.0; 3],
+        covariance: [0.0; 9],
         z_sigma: 0.0,
         tilt_sigma: 0.0,
     };
@@ -47,9 +47,11 @@ impl WheelOdomMeasurement {
     pub fn planar_motion(self) -> PlanarMotion
         ensures { result ≡ motion_of self }
     {
-        // Each array has a name of its own, since no proof is generated for one that goes straight from a field into a literal.
-        let delta = self.delta;
-        let covariance = self.covariance;
+        let WheelOdomMeasurement {
+            delta,
+            covariance,
+            ..
+        } = self;
         PlanarMotion { delta, covariance }
     }
 
