@@ -55,7 +55,7 @@ pub extern "C" fn bench_wheel_run(events: &[u8]) -> f64
     runs::run(fresh, events).state.dt()
 }
 
-// How many bytes the replay of a log prints.
+// How many bytes the replay of a log prints, into fixed room: nothing here uses the heap.
 #[unsafe(no_mangle)]
 pub extern "C" fn bench_replay(log: &[u8]) -> usize
     ensures { result ≡ length (lines_of log.now) }

@@ -1,5 +1,6 @@
-// The 9×9, 9×6 and 6×6 matrices of the inertial covariance: numbers column by column. From the helpers at the end of kornia's imu.rs; their products are the crate `lean9`.
-// Arrays that are only read are lent and a result is returned by value, so that no matrix is copied to be read. Every size is a constant, so that no division is left to be done at run time.
+// The 9×9, 9×6 and 6×6 matrices of the inertial covariance: numbers column by column. From the helpers at the end of kornia's imu.rs; their products are the
+// crate `lean9`. Arrays that are only read are lent and a result is returned by value, so that no matrix is copied to be read. Every size is a constant, so
+// that no division is left to be done at run time.
 #![tactic(auto)]
 
 ghost use Rattle.std.specs.Prelude.{◌≡◌, ◌*◌};
