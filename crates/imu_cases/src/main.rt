@@ -225,7 +225,7 @@ fn read_samples(rt: &impl Input, samples: &mut [f64]) -> usize
     n
 }
 
-// How many places the order buffer has. Each is numbered, so that one that nothing is written to shows.
+// How many places the order buffer has, which is of a fixed size as well. Each is numbered, so that one that nothing is written to shows.
 fn read_places(rt: &impl Input, order: &mut [usize]) -> usize
     ensures upper_bound { result ≤ length order.new }
     ensures value { result ≡ length (take result order.new) }

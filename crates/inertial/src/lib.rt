@@ -24,8 +24,8 @@ pub struct ImuBias {
 
 impl ImuBias {
     pub const ZERO: ImuBias = ImuBias {
-        gyro: [0.0, 0.0, 0.0],
-        accel: [0.0, 0.0, 0.0],
+        gyro: [0.0; 3],
+        accel: [0.0; 3],
     };
 }
 

@@ -80,7 +80,7 @@ fn step_transposed_column(m: &[f64; 81], a: &[f64; 81], c: usize) -> [f64; 9]
     plus_term(plus_term(w, m, a, c, k), m, a, c, c)
 }
 
-// m · aᵀ.
+// m · aᵀ. Each closure states its contract, here and in the products below, since none is inferred for one that answers an array.
 fn times_step_transposed(m: &[f64; 81], a: &[f64; 81]) -> [f64; 81]
     ensures { result ≡ times_step_transposed m.now a.now }
 {

@@ -14,7 +14,7 @@ pub use refusal::{Numbered, Refusal};
 pub use tick::{tick_difference, tick_in_range};
 pub use whole::whole_to_f64;
 
-// The f64s nearest to π and 2π, which specs/ proves of these digits.
+// The f64s nearest to π and 2π (specs/Constants.antt). Written out: std's `consts` would be no plainer, since specs/ has these two by their bits.
 pub const PI: f64 = 3.141592653589793;
 
 pub const TAU: f64 = 6.283185307179586;

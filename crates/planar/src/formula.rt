@@ -53,8 +53,8 @@ fn first_jacobian(tx: f64, ty: f64) -> [f64; 9]
     [1.0, 0.0, 0.0, 0.0, 1.0, 0.0, -ty, tx, 1.0]
 }
 
-// The covariance s of a motion or of a twist increment, carried by a Jacobian j: j · s · jᵀ, left to right. In its caller's place, where a Jacobian's ones are
-// known.
+// The covariance s of a motion or of a twist increment, carried by a Jacobian j: j · s · jᵀ, left to right. Inlined, so that a Jacobian's ones are
+// known where it is compiled.
 #[inline(always)]
 #[tactic(auto, unfolding(crate::specs::Compose::carried))]
 pub fn carried(j: [f64; 9], s: [f64; 9]) -> [f64; 9]

@@ -55,11 +55,10 @@ pub fn turn_of(x: f64) -> SinCos
 fn short_kernel(x: f64) -> SinCos
     ensures { result ≡ short_kernel x }
 {
-    let f = F;
     let z = x * x;
     SinCos {
-        sin: x - x * (z * (f[3] - z * (f[5] - z * f[7]))),
-        cos: 1.0 - z * (f[2] - z * (f[4] - z * f[6])),
+        sin: x - x * (z * (F[3] - z * (F[5] - z * F[7]))),
+        cos: 1.0 - z * (F[2] - z * (F[4] - z * F[6])),
     }
 }
 
@@ -68,13 +67,12 @@ fn short_kernel(x: f64) -> SinCos
 fn long_kernel(r: f64) -> SinCos
     ensures { result ≡ long_kernel r }
 {
-    let f = F;
     let z = r * r;
-    let p = f[9] - z * (f[11] - z * (f[13] - z * (f[15] - z * f[17])));
-    let q = f[8] - z * (f[10] - z * (f[12] - z * (f[14] - z * f[16])));
+    let p = F[9] - z * (F[11] - z * (F[13] - z * (F[15] - z * F[17])));
+    let q = F[8] - z * (F[10] - z * (F[12] - z * (F[14] - z * F[16])));
     SinCos {
-        sin: r - r * (z * (f[3] - z * (f[5] - z * (f[7] - z * p)))),
-        cos: 1.0 - z * (f[2] - z * (f[4] - z * (f[6] - z * q))),
+        sin: r - r * (z * (F[3] - z * (F[5] - z * (F[7] - z * p)))),
+        cos: 1.0 - z * (F[2] - z * (F[4] - z * (F[6] - z * q))),
     }
 }
 
