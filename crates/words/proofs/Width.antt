@@ -1,9 +1,10 @@
 -- The bytes from an index on are the same number to std and to 01, and zeros behind what there is change nothing. Assumes nothing.
 use Rattle.std.proofs.Common.{◌≡◌, ℕ, zero, suc, ◌+◌, ◌<◌, List, [], ◌∷◌, ◌++◌, length, get_or, drop, replicate, refl, ap, add_assoc, arith}
-use mathlib.Core.List.{append-nil}
 use Rattle.std.specs.Prelude.{slice_index}
 use Rattle.std.specs.Int.{w32, w64, from_le_bytes}
 use lib.Seq.{drop-drop, get_or-drop}
+use Rattle.number.specs.Tabulated.{tabulated}
+use Rattle.number.proofs.Tabulated.{tabulated_at}
 use Rattle.words.specs.Words.{little_endian, word_at}
 
 module _ (bytes s : List ℕ) (i : ℕ) where
@@ -17,14 +18,6 @@ module _ (bytes s : List ℕ) (i : ℕ) where
       simp (drop-drop, get_or-drop, add_assoc)
       (omega (arith, h 0 (omega arith), h 1 (omega arith), h 2 (omega arith), h 3 (omega arith), h 4 (omega arith), h 5 (omega arith), h 6 (omega arith), h 7 (omega arith)))
 
-zeros : (n k : ℕ) → get_or {A = ℕ} (replicate n 0) k 0 ≡ 0
-zeros zero k = refl
-zeros (suc n) zero = refl
-zeros (suc n) (suc k) = zeros n k
-
--- bytes with zeros behind them
-pub padded : (rest : List ℕ) (n k : ℕ) → get_or {A = ℕ} (rest ++ drop (length rest) (replicate {A = ℕ} n 0)) k 0 ≡ get_or {A = ℕ} rest k 0
-padded [] n k = zeros n k
-padded (x ∷ rest) n zero = refl
-padded (x ∷ rest) zero (suc k) = ap (λ (xs : List ℕ). get_or xs k 0) (append-nil rest)
-padded (x ∷ rest) (suc n) (suc k) = padded rest n k
+-- bytes with zeros behind them, from an index on
+pub padded_at : (bytes s : List ℕ) (i n k : ℕ) → bytes ≡ tabulated n (λ k. get_or {A = ℕ} (drop i s) k 0) → k < n → slice_index bytes k ≡ get_or {A = ℕ} s (i + k) 0
+padded_at bytes s i n k e h = rw (e, tabulated_at, get_or-drop)

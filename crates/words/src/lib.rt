@@ -4,16 +4,24 @@
 ghost use Rattle.std.specs.Prelude.{◌≡◌, ◌+◌, ◌<◌, drop, get_or, slice_index};
 ghost use Rattle.std.specs.Float.{binary64};
 ghost use Rattle.std.specs.Float.Ieee.{of_bits as of_pattern, to_bits as to_pattern};
+ghost use Rattle.number.specs.Tabulated.{tabulated};
 ghost use Rattle.words.specs.Words.{float_at, signed_at, word_at};
 
 use std::num::{f64_from_bits_with_nan, f64_to_bits_with_nan};
 
 // The byte at index i, or 0 past the end.
+fn byte_at(s: &[u8], i: usize) -> u8
+    ensures { result ≡ get_or s.now i 0 }
+{
+    s.get(i).copied().unwrap_or(0)
+}
+
+// The same as a u64.
 pub fn byte(s: &[u8], i: usize) -> u64
     ensures value { result ≡ get_or s.now i 0 }
     ensures upper_bound { result < 256 }
 {
-    u64::from(s.get(i).copied().unwrap_or(0))
+    u64::from(byte_at(s, i))
 }
 
 // What stands from index i on.
@@ -23,8 +31,19 @@ fn from(s: &[u8], i: usize) -> &[u8]
     s.get(i..).unwrap_or(&[])
 }
 
+// The first N of these bytes, and zeros behind them. One by one: std's `copy_from_slice` of so many as are there is a call of the C library's `memcpy`, which
+// libkept_bytes.a needs for nothing else.
+fn padded<const N: usize>(bytes: &[u8]) -> [u8; N]
+    ensures { result ≡ tabulated N (λ k. get_or bytes.now k 0) }
+{
+    let mut whole = [0; N];
+    for (k, b) in whole.iter_mut().enumerate() {
+        *b = byte_at(bytes, k);
+    }
+    whole
+}
+
 // The N bytes from index i on.
-#[tactic(auto, using(crate::proofs::Width::padded))]
 fn bytes_at<const N: usize>(s: &[u8], i: usize) -> [u8; N]
     ensures { (k : _) → k < N → slice_index result k ≡ get_or s.now (i + k) 0 }
 {
@@ -32,9 +51,7 @@ fn bytes_at<const N: usize>(s: &[u8], i: usize) -> [u8; N]
     if let Some(bytes) = rest.first_chunk() {
         return *bytes;
     }
-    let mut bytes = [0; N];
-    bytes[..rest.len()].copy_from_slice(rest);
-    bytes
+    padded(rest)
 }
 
 #[tactic(auto, using(crate::proofs::Width::spelled_4))]
