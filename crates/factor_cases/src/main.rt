@@ -18,6 +18,12 @@
 // sigma stand behind a tolerance, and so does the matrix of 3.
 #![tactic(auto)]
 
+ghost use Rattle.std.specs.Prelude.{◌≡◌};
+ghost use Rattle.stationary_information.specs.Information.{told_informed as told_still};
+ghost use Rattle.wheel_factor.specs.Factor.{told_factor};
+ghost use Rattle.wheel_odom.specs.Information.{told_informed};
+ghost use Rattle.wheel_odom.specs.Measurement.{told_measurement};
+
 use number::Numbered;
 use planar::PlanarMotion;
 use stationary::{StationaryFactor, StationaryGyro};
@@ -74,14 +80,14 @@ fn ask_measurements(rt: &(impl Input + Print)) -> io::Result<()> {
 fn ask_information(rt: &(impl Input + Print), kind: u64) -> io::Result<()> {
     let informed = read_measurement(rt).information();
     cases::print_outcome(rt, &informed)?;
-    cases::print_near(rt, kind, &informed.unwrap_or([0.0; 36]))
+    cases::print_near(rt, kind, &matrix_of(informed))
 }
 
 fn ask_composed(rt: &(impl Input + Print), kind: u64) -> io::Result<()> {
     let first = read_measurement(rt);
     let composed = first.compose(read_measurement(rt));
     cases::print_outcome(rt, &composed)?;
-    print_measurement(rt, kind, composed.unwrap_or(WheelOdomMeasurement::BLANK))
+    print_measurement(rt, kind, measurement_of(composed))
 }
 
 fn ask_factor_valid(rt: &(impl Input + Print)) -> io::Result<()> {
@@ -93,7 +99,7 @@ fn ask_factors_composed(rt: &(impl Input + Print), kind: u64) -> io::Result<()> 
     let first = read_factor(rt);
     let composed = first.compose(read_factor(rt));
     cases::print_outcome(rt, &composed)?;
-    print_factor(rt, kind, composed.unwrap_or(WheelOdomFactor::BLANK))
+    print_factor(rt, kind, factor_of(composed))
 }
 
 // ---- still factors, and limits
@@ -114,7 +120,7 @@ fn ask_still_information(rt: &(impl Input + Print)) -> io::Result<()> {
     let informed = stationary_information::information(f);
     cases::print_word(rt, f.is_valid() as u64)?;
     cases::print_outcome(rt, &informed)?;
-    print_info(rt, informed.unwrap_or(StationaryInfo::BLANK))
+    print_info(rt, info_of(informed))
 }
 
 fn ask_still_composed(rt: &(impl Input + Print)) -> io::Result<()> {
@@ -132,6 +138,32 @@ fn ask_limits_joined(rt: &(impl Input + Print)) -> io::Result<()> {
     let joined = robust::joined(first, read_limit(rt));
     print_limit(rt, joined)?;
     cases::print_word(rt, robust::is_valid(joined) as u64)
+}
+
+// ---- the value of an answer: beside a refusal the blank one that the definition has there
+
+fn matrix_of(informed: Result<[f64; 36], wheel_odom::Refusal>) -> [f64; 36]
+    ensures { result ≡ (told_informed informed).value }
+{
+    informed.unwrap_or([0.0; 36])
+}
+
+fn measurement_of(composed: Result<WheelOdomMeasurement, sincos::Refusal>) -> WheelOdomMeasurement
+    ensures { result ≡ (told_measurement composed).value }
+{
+    composed.unwrap_or(WheelOdomMeasurement::BLANK)
+}
+
+fn factor_of(composed: Result<WheelOdomFactor, wheel_factor::Refusal>) -> WheelOdomFactor
+    ensures { result ≡ (told_factor composed).value }
+{
+    composed.unwrap_or(WheelOdomFactor::BLANK)
+}
+
+fn info_of(informed: Result<StationaryInfo, stationary_information::Refusal>) -> StationaryInfo
+    ensures { result ≡ (told_still informed).value }
+{
+    informed.unwrap_or(StationaryInfo::BLANK)
 }
 
 // ---- what a record holds

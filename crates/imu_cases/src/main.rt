@@ -21,6 +21,8 @@
 #![tactic(auto)]
 
 ghost use Rattle.std.specs.Prelude.{◌≡◌, ◌≤◌, length, take};
+ghost use Rattle.imu.specs.State.{told_made};
+ghost use Rattle.imu_correction.specs.Correction.{told_predicted, told_rotation, told_vector};
 
 use imu::PreintegratedImu;
 use imu_correction::Motion;
@@ -40,7 +42,9 @@ fn main(rt: HostRuntime) -> io::Result<()> {
     Ok(())
 }
 
-// The kind is matched as the number that the input has: an enum of the kinds would be the list above a second time.
+// The kind is matched as the number that the input has: an enum of the kinds would be the list above a second time. Out of line, and so are the batch and the
+// window: their room stands on the stack only while a record is answered that needs it.
+#[inline(never)]
 fn after_record(
     rt: &(impl Input + Print),
     kind: u64,
@@ -67,7 +71,7 @@ fn make(rt: &(impl Input + Print), state: &mut PreintegratedImu) -> io::Result<(
     let bias = read_bias(rt);
     let answer = PreintegratedImu::new(bias, cases::read_calib(rt));
     cases::print_outcome(rt, &answer)?;
-    *state = answer.unwrap_or(PreintegratedImu::BLANK);
+    *state = state_of(answer);
     Ok(())
 }
 
@@ -80,6 +84,7 @@ fn widen(rt: &(impl Input + Print), state: &mut PreintegratedImu) -> io::Result<
     cases::print_outcome(rt, &state.widen_bias_walk(cases::read_f64(rt)))
 }
 
+#[inline(never)]
 fn integrate_batch(rt: &(impl Input + Print), state: &mut PreintegratedImu) -> io::Result<()> {
     let mut samples = [0.0; 28679];
     let n = read_samples(rt, &mut samples);
@@ -92,6 +97,7 @@ fn integrate_batch(rt: &(impl Input + Print), state: &mut PreintegratedImu) -> i
     cases::print_word(rt, index as u64)
 }
 
+#[inline(never)]
 fn integrate_window(rt: &(impl Input + Print), state: &mut PreintegratedImu) -> io::Result<()> {
     let bias = read_bias(rt);
     let calib = cases::read_calib(rt);
@@ -120,35 +126,33 @@ fn integrate_window(rt: &(impl Input + Print), state: &mut PreintegratedImu) -> 
 // The kind is matched as the number that the input has: an enum of the kinds would be the list above a second time.
 fn ask(rt: &(impl Input + Print), kind: u64, state: PreintegratedImu) -> io::Result<()> {
     match kind % 100 {
-        8 => print_answer(
-            rt,
-            kind,
-            imu_correction::delta_rotation_with_bias(state, read_bias(rt)),
-        ),
-        9 => print_answer(
-            rt,
-            kind,
-            imu_correction::delta_velocity_with_bias(state, read_bias(rt)),
-        ),
-        10 => print_answer(
-            rt,
-            kind,
-            imu_correction::delta_position_with_bias(state, read_bias(rt)),
-        ),
+        8 => {
+            let answer = imu_correction::delta_rotation_with_bias(state, read_bias(rt));
+            print_answer(rt, kind, answer, rotation_of(answer))
+        }
+        9 => {
+            let answer = imu_correction::delta_velocity_with_bias(state, read_bias(rt));
+            print_answer(rt, kind, answer, vector_of(answer))
+        }
+        10 => {
+            let answer = imu_correction::delta_position_with_bias(state, read_bias(rt));
+            print_answer(rt, kind, answer, vector_of(answer))
+        }
         11 => ask_prediction(rt, kind, state),
         12 => print_state(rt, kind, state),
         _ => cases::print_word(rt, cases::read_word(rt)),
     }
 }
 
-// A refusal has zeros beside it.
+// What became of the call, and the value of its answer.
 fn print_answer<const N: usize, E: Numbered + Copy>(
     rt: &(impl Input + Print),
     kind: u64,
     answer: Result<[f64; N], E>,
+    value: [f64; N],
 ) -> io::Result<()> {
     cases::print_outcome(rt, &answer)?;
-    cases::print_near(rt, kind, &answer.unwrap_or([0.0; N]))
+    cases::print_near(rt, kind, &value)
 }
 
 fn ask_prediction(rt: &(impl Input + Print), kind: u64, state: PreintegratedImu) -> io::Result<()> {
@@ -157,10 +161,36 @@ fn ask_prediction(rt: &(impl Input + Print), kind: u64, state: PreintegratedImu)
     let p = cases::read_array(rt);
     let answer = imu_correction::predict(state, r, v, p, cases::read_array(rt));
     cases::print_outcome(rt, &answer)?;
-    let next = answer.unwrap_or(Motion::BLANK);
+    let next = motion_of(answer);
     cases::print_near(rt, kind, &next.rotation)?;
     cases::print_near(rt, kind, &next.velocity)?;
     cases::print_near(rt, kind, &next.position)
+}
+
+// ---- the value of an answer: beside a refusal the blank one that the definition has there
+
+fn state_of(made: Result<PreintegratedImu, imu::Refusal>) -> PreintegratedImu
+    ensures { result ≡ (told_made made).value }
+{
+    made.unwrap_or(PreintegratedImu::BLANK)
+}
+
+fn rotation_of(corrected: Result<[f64; 9], sincos::Refusal>) -> [f64; 9]
+    ensures { result ≡ (told_rotation corrected).value }
+{
+    corrected.unwrap_or([0.0; 9])
+}
+
+fn vector_of(corrected: Result<[f64; 3], number::Refusal>) -> [f64; 3]
+    ensures { result ≡ (told_vector corrected).value }
+{
+    corrected.unwrap_or([0.0; 3])
+}
+
+fn motion_of(predicted: Result<Motion, number::Refusal>) -> Motion
+    ensures { result ≡ (told_predicted predicted).value }
+{
+    predicted.unwrap_or(Motion::BLANK)
 }
 
 // ---- what a record holds

@@ -32,8 +32,14 @@ fn main(rt: HostRuntime) -> io::Result<()> {
 fn print_root(rt: &impl Print, x: f64) -> io::Result<()> {
     match root::sqrt(x) {
         Ok(r) => print_f64(rt, r),
-        Err(refusal) => println!(rt; "refused {}", refusal.number()),
+        Err(refusal) => print_refusal(rt, "refused ", refusal.number()),
     }
+}
+
+// A refusal's number, behind some words. Out of line, so that the room in which a line is put together stands on the stack only where something is refused.
+#[inline(never)]
+fn print_refusal(rt: &impl Print, before: &str, number: u64) -> io::Result<()> {
+    println!(rt; "{before}{number}")
 }
 
 fn print_halvings(rt: &impl Print, ratio: f64) -> io::Result<()> {
@@ -68,7 +74,7 @@ fn print_information(rt: &impl Print) -> io::Result<()> {
     rt.print("diag(-1,-1,1) gives ")?;
     match m.information() {
         Ok(_) => rt.println("a matrix"),
-        Err(refusal) => println!(rt; "{}", refusal.number()),
+        Err(refusal) => print_refusal(rt, "", refusal.number()),
     }
 }
 

@@ -25,6 +25,10 @@
 // radians per tick. The Rust keeps none, so that otherwise none stand there, and those of a state that is handed in are worked out.
 #![tactic(auto)]
 
+ghost use Rattle.std.specs.Prelude.{◌≡◌};
+ghost use Rattle.planar.specs.Compose.{told_composed};
+ghost use Rattle.wheel.specs.Answers.{told_made};
+
 use drive::{BodyTwist, DifferentialDrive, Reading, Refusal, WheelMeasurement, WheelNoise};
 use interval::Accumulated;
 use kept::KeptValues;
@@ -79,7 +83,7 @@ fn begin(
     state: &mut WheelPreintegration,
 ) -> io::Result<()> {
     let made = WheelPreintegration::new(drive, noise);
-    *state = made.unwrap_or(WheelPreintegration::BLANK);
+    *state = state_of(made);
     print_outcome(rt, made.map(|_| ()))
 }
 
@@ -155,8 +159,22 @@ fn ask_jacobian(rt: &(impl Input + Print), drive: DifferentialDrive) -> io::Resu
 fn ask_composed(rt: &(impl Input + Print), kind: u64, stored: PlanarMotion) -> io::Result<()> {
     let composed = stored.compose(read_motion(rt));
     cases::print_outcome(rt, &composed)?;
-    let motion = composed.unwrap_or(PlanarMotion::IDENTITY);
+    let motion = motion_of(composed);
     cases::print_motion(rt, kind, &motion.delta, &motion.covariance)
+}
+
+// ---- the value of an answer: beside a refusal the blank one that the definition has there
+
+fn state_of(made: Result<WheelPreintegration, Refusal>) -> WheelPreintegration
+    ensures { result ≡ (told_made made).value }
+{
+    made.unwrap_or(WheelPreintegration::BLANK)
+}
+
+fn motion_of(composed: Result<PlanarMotion, sincos::Refusal>) -> PlanarMotion
+    ensures { result ≡ (told_composed composed).value }
+{
+    composed.unwrap_or(PlanarMotion::IDENTITY)
 }
 
 // ---- what a record holds behind its kind
