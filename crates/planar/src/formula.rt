@@ -20,7 +20,7 @@ pub fn composed(first: PlanarMotion, next: PlanarMotion) -> PlanarMotion
     let tx = t[0];
     let ty = t[1];
     let delta = [a[0] + tx, a[1] + ty, wrapped(a[2] + b[2])];
-    let covariance = symmetrized(carried(first_jacobian(tx, ty), p), carried(turn, q));
+    let covariance = symmetrized(carried_by_shift(tx, ty, p), carried_by_turn(turn, q));
     PlanarMotion { delta, covariance }
 }
 
@@ -53,8 +53,23 @@ fn first_jacobian(tx: f64, ty: f64) -> [f64; 9]
     [1.0, 0.0, 0.0, 0.0, 1.0, 0.0, -ty, tx, 1.0]
 }
 
-// The covariance s of a motion or of a twist increment, carried by a Jacobian j: j · s · jᵀ, left to right. Inlined, so that a Jacobian's ones are
-// known where it is compiled.
+// The covariance s of the first motion, carried by its Jacobian. Each kind of Jacobian has a function of its own, since a function with one caller is compiled
+// in its place, where the Jacobian's ones are known.
+fn carried_by_shift(tx: f64, ty: f64, s: [f64; 9]) -> [f64; 9]
+    ensures { result ≡ carried_of (first_jacobian tx ty) s }
+{
+    carried(first_jacobian(tx, ty), s)
+}
+
+// The covariance s of the second motion, carried by the turn y.
+fn carried_by_turn(y: [f64; 9], s: [f64; 9]) -> [f64; 9]
+    ensures { result ≡ carried_of y s }
+{
+    carried(y, s)
+}
+
+// The covariance s of a motion or of a twist increment, carried by a Jacobian j: j · s · jᵀ, left to right. Inlined, so that the two above are compiled
+// with it.
 #[inline(always)]
 #[tactic(auto, unfolding(crate::specs::Compose::carried))]
 pub fn carried(j: [f64; 9], s: [f64; 9]) -> [f64; 9]
