@@ -22,6 +22,7 @@
 
 ghost use Rattle.std.specs.Prelude.{◌≡◌, ◌≤◌, length, take};
 ghost use Rattle.imu.specs.State.{told_made};
+ghost use Rattle.imu_window.specs.Batch.{index_of};
 ghost use Rattle.imu_correction.specs.Correction.{told_predicted, told_rotation, told_vector};
 
 use imu::PreintegratedImu;
@@ -42,8 +43,8 @@ fn main(rt: HostRuntime) -> io::Result<()> {
     Ok(())
 }
 
-// The kind is matched as the number that the input has: an enum of the kinds would be the list above a second time. Out of line, and so are the batch and the
-// window: their room stands on the stack only while a record is answered that needs it.
+// The kind is matched as the number that the input has: an enum of the kinds would be the list above a second time. Out of line, and so are
+// making, the batch, the window and what is asked: their room stands on the stack only while a record is answered that needs it.
 #[inline(never)]
 fn after_record(
     rt: &(impl Input + Print),
@@ -67,6 +68,7 @@ fn after_record(
 
 // ---- the calls that give a state
 
+#[inline(never)]
 fn make(rt: &(impl Input + Print), state: &mut PreintegratedImu) -> io::Result<()> {
     let bias = read_bias(rt);
     let answer = PreintegratedImu::new(bias, cases::read_calib(rt));
@@ -90,11 +92,7 @@ fn integrate_batch(rt: &(impl Input + Print), state: &mut PreintegratedImu) -> i
     let n = read_samples(rt, &mut samples);
     let answer = imu_window::integrate_batch(state, &samples[..n]);
     cases::print_outcome(rt, &answer)?;
-    let index = match answer {
-        Err(BatchRefusal::Step { index, .. }) => index,
-        _ => 0,
-    };
-    cases::print_word(rt, index as u64)
+    cases::print_word(rt, index_of(answer) as u64)
 }
 
 #[inline(never)]
@@ -124,6 +122,7 @@ fn integrate_window(rt: &(impl Input + Print), state: &mut PreintegratedImu) -> 
 // ---- what is asked, and leaves the state
 
 // The kind is matched as the number that the input has: an enum of the kinds would be the list above a second time.
+#[inline(never)]
 fn ask(rt: &(impl Input + Print), kind: u64, state: PreintegratedImu) -> io::Result<()> {
     match kind % 100 {
         8 => {
@@ -173,6 +172,16 @@ fn state_of(made: Result<PreintegratedImu, imu::Refusal>) -> PreintegratedImu
     ensures { result ≡ (told_made made).value }
 {
     made.unwrap_or(PreintegratedImu::BLANK)
+}
+
+// The index of the sample whose step is refused, else 0.
+fn index_of(answer: Result<(), BatchRefusal>) -> usize
+    ensures { result ≡ index_of answer }
+{
+    match answer {
+        Err(BatchRefusal::Step { index, .. }) => index,
+        _ => 0,
+    }
 }
 
 fn rotation_of(corrected: Result<[f64; 9], sincos::Refusal>) -> [f64; 9]
